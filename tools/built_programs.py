@@ -12,8 +12,8 @@ import sys
 from pathlib import Path
 
 TOP = Path(__file__).resolve().parent.parent
-sys.path.insert(0, str(TOP / "recipes" / "python"))
-from zegdrut import programs  # noqa: E402  (the only import of the package by these tools)
+sys.path.insert(0, str(TOP / "python"))
+from zegdrut.program import programs  # noqa: E402  (the only import of the package by these tools)
 
 LABORATORY, WITHIN, CALLS = "road_lab", "tests_within", "tests_failures"
 PROGRAMS = (LABORATORY, WITHIN, CALLS)
@@ -41,8 +41,12 @@ def text_of(name: str) -> str:
 
 
 def write_record(path: Path, text: str, proved: bool, checks: bool) -> None:
-    """Write a record next to a program: the checksum of the text that it was made from, and how it was made."""
-    programs.write_record(path, text, proved, checks)
+    """Write a record next to a program: the checksum of the text that it was made from, and how and with which kit it was made."""
+    try:
+        kit = kit_name()
+    except (OSError, subprocess.CalledProcessError):
+        kit = None
+    programs.write_record(path, text, proved, checks, kit)
 
 
 def current_path(name: str, with_checks: bool = True) -> Path | None:

@@ -7,7 +7,7 @@ import os
 import signal
 from typing import Any
 
-from server.client import RefusedReply, Seat
+from server.tabs.client import RefusedReply, Seat
 from server.model.operations import Stamp
 from running import SMALL, Case, descendants, until
 

@@ -8,11 +8,11 @@ import shutil
 import signal
 from typing import Any, Sequence
 
-from server.client import Seat
+from server.tabs.client import Seat
 from zegdrut import Edit, RoadLab
-from server.peers import BrokerState
+from server.sites.peers import BrokerState
 from running import SMALL, Broker, Case, Server, end, new_folder, until
-from server.records import read_plan_line
+from server.journal.records import read_plan_line
 
 TOTALS = {"from": 0, "to": 100}
 

@@ -16,7 +16,7 @@ from aiohttp import ClientError
 
 from crashes import PLAN, Engineer, numbers, raw_edits
 from running import ALL, PATIENCE, Case, Server, end, new_folder, until
-from server.client import RefusedReply, Seat
+from server.tabs.client import RefusedReply, Seat
 
 ROUNDS, GESTURES = (20, 500) if ALL else (5, 50)
 WAYS = ("server_is_killed", "folder_is_restored", "broker_is_killed", "folder_is_cloned", "program_is_killed")

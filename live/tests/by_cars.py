@@ -9,7 +9,7 @@ from typing import Any
 from faulty import Here, soon
 from raw_figures import LONG, STEPS, Run, compare, random_plan, random_shapes
 from running import ALL, Case
-from server.settings import Settings
+from server.background.settings import Settings
 
 ROADS = 100 if ALL else 30
 

@@ -10,8 +10,8 @@ from typing import Any
 
 from faulty import Here, soon
 from running import SMALL, Case, new_folder, program, until
-from server.refusals import Refused
-from server.settings import Settings
+from server.tabs.refusals import Refused
+from server.background.settings import Settings
 
 # Student's t for 95 %, by degrees of freedom, from a printed table.
 T_OF = {1: 12.706205, 2: 4.302653}

@@ -11,8 +11,8 @@ from typing import Any, Callable, Sequence
 from aiohttp import ClientError
 
 from oracle import by_rows, oracle_of
-from server.client import Seat
-from server.frames import Held
+from server.tabs.client import Seat
+from server.tabs.frames import Held
 from server.model.operations import Stamp
 from server.model.reading import read_operation
 from running import PATIENCE, SMALL, Case, Server, transport_of, until

@@ -8,7 +8,7 @@ from typing import Any
 
 from faulty import Here
 from running import PATIENCE, Case
-from server.turns import MORE, Job, More, Turns, Work
+from server.roads.turns import MORE, Job, More, Turns, Work
 
 
 COUNTING: list[tuple[str, dict[str, int]]] = [("sums", {}), ("counts", {"each": 10})]

@@ -14,14 +14,14 @@ from typing import Any, Callable, NamedTuple
 from unittest import mock
 
 from running import PATIENCE, SMALL, new_folder, program
-from server import verbs
-from server.asked import CommandFields
-from server.keeper import Keeper
-from server.lab import Lab
+from server.tabs import verbs
+from server.tabs.asked import CommandFields
+from server.journal.keeper import Keeper
+from server.journal.lab import Lab
 from server.model.operations import Operation
-from server.questions import Questions
-from server.settings import Settings
-from server.sites import Sites
+from server.tabs.questions import Questions
+from server.background.settings import Settings
+from server.sites.sites import Sites
 
 CALLS = ("write", "fsync", "rename", "ftruncate")
 
@@ -67,7 +67,7 @@ class Disk:
         self.fault = lambda *_: errno.EROFS if is_so else None
 
     def __enter__(self) -> Disk:
-        self._patch = mock.patch("server.journal.os", self)
+        self._patch = mock.patch("server.journal.journal.os", self)
         self._patch.start()
         return self
 
@@ -125,7 +125,7 @@ class Here:
 
     def entries(self) -> list[Any]:
         """Return the entries on the disk."""
-        from server.journal import read_entries
+        from server.journal.journal import read_entries
         return read_entries(self.folder / "journal.jsonl")[0]
 
 

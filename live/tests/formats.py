@@ -20,8 +20,8 @@ from oracle import by_rows, oracle_of
 from readers import LAST, PLAN
 from running import Case, Server
 from server.model.projection import all_edits
-from server.screen import rows_of
-from server.state import State
+from server.roads.screen import rows_of
+from server.journal.state import State
 
 HERE = Path(__file__).resolve().parent / "former_journals"
 ROADS = {"length": 10, "exit": 1, "zone": 1, "zones": [[5 if index < 6 else 4, 1] for index in range(10)],

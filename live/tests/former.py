@@ -11,7 +11,7 @@ import running
 from zegdrut import Edit, RoadLab, Stamp
 from robots import LAST, PLAN, random_edits
 from running import Case, Server
-from server.records import read_plan_line
+from server.journal.records import read_plan_line
 
 RUNS = 20 if running.ALL else 2
 SEATS = ["shared", *(f"seat{index}" for index in range(1, 64))]

@@ -11,11 +11,11 @@ from pathlib import Path
 from typing import Any, Mapping, Sequence
 
 from crashes import numbers
-from server.client import Seat
-from server.reports import demand_text
+from server.tabs.client import Seat
+from server.figures.report import demand_text
 from running import LIVE, PATIENCE, SMALL, Case, Server, end, new_folder, program, started, until
-from zegdrut.clock import Clock
-from zegdrut.wire import PlanLine, WrittenEdit
+from zegdrut.roads.clock import Clock
+from zegdrut.program.wire import PlanLine, WrittenEdit
 
 KM: dict[str, Any] = {
     "length": 1.5, "main": 900, "ramps": [], "minutes": 15, "stretch": [0.3, 0.6], "detectors": [0.75],
@@ -233,7 +233,7 @@ class Freeways(Case):
     def of_recipe(self, path: Path) -> Any:
         """Return the recipe's road in cells and steps."""
         from zegdrut.commands.freeway import FIGURES
-        from zegdrut.freeway import make_roads
+        from zegdrut.roads.freeway import make_roads
         return make_roads(FIGURES.override(path), None)[0]
 
     def test_an_unreadable_file_is_refused_and_leaves_nothing(self) -> None:

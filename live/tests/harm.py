@@ -11,13 +11,14 @@ from unittest import mock
 from crashes import numbers
 from faulty import Bus, Here, message_of, soon, told
 from running import ALL, LIVE, SMALL, Case
-from server import stamps, verbs
-from server.asked import CommandFields
-from server.refusals import MEANINGS, OF_THE_FORMAT, Refused
+from server.journal import stamps
+from server.tabs import verbs
+from server.tabs.asked import CommandFields
+from server.tabs.refusals import MEANINGS, OF_THE_FORMAT, Refused
 from server.model.operations import Operation, Shape, put
 from server.model.projection import all_edits
-from server.screen import rows_of
-from server.floods import Floods
+from server.roads.screen import rows_of
+from server.sites.floods import Floods
 
 JUNK: list[Any] = [None, True, -1, 0, 1, 5, 119, 1 << 20, 1 << 48, 10 ** 30, 0.5, "", "block", "k", "shared", "before", "x" * 300, [], {},
         [[]], [1, 65]]
@@ -56,7 +57,7 @@ class Bounds(Case):
         now = [0.0]
         first._floods = Floods(lambda: now[0])
         await bus.rounds()
-        with mock.patch("server.floods.MESSAGE_BURST", 20), mock.patch("server.floods.MESSAGES_PER_SECOND", 1):
+        with mock.patch("server.sites.floods.MESSAGE_BURST", 20), mock.patch("server.sites.floods.MESSAGES_PER_SECOND", 1):
             first._floods = Floods(lambda: now[0])
             for _ in range(30):
                 second._announce_site()
@@ -91,7 +92,7 @@ class Bounds(Case):
         def worked() -> float:
             work[0] += 2.9  # once before, and once after
             return work[0]
-        with mock.patch("server.lab.time.thread_time", worked):
+        with mock.patch("server.journal.lab.time.thread_time", worked):
             for step, seconds in ((50, 0), (51, 6), (52, 0), (53, 0), (54, 0)):  # 9 seconds of work are allowed in all
                 await two.put(1, ["limit", 2, step, 3])
                 await two.share(1)
@@ -266,7 +267,7 @@ class Bounds(Case):
         await here.put(1, ["limit", 2, 50, 3])
         sent = []
         now = [1_000.0]
-        with mock.patch("server.sites.time.monotonic", lambda: now[0]):
+        with mock.patch("server.sites.sites.time.monotonic", lambda: now[0]):
             await here.share(1)
             for _ in range(1_000):
                 site._send_unreturned()
@@ -287,7 +288,7 @@ class Bounds(Case):
         await one.share(1)
         await bus.carry()
         bus.site(two)
-        with mock.patch("server.sites.OPERATIONS_AT_ONCE", 10):
+        with mock.patch("server.sites.sites.OPERATIONS_AT_ONCE", 10):
             counts = []
             for _ in range(6):
                 bus.seen.clear()

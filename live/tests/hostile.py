@@ -11,12 +11,12 @@ from unittest import mock
 
 import aiohttp
 
-from server import verbs
-from server.asked import CommandFields
-from server.refusals import Refused
-from server.client import Seat
-from server.doors import Strangers, address_group
-from server.tabs import Tab, parse_frame
+from server.tabs import verbs
+from server.tabs.asked import CommandFields
+from server.tabs.refusals import Refused
+from server.tabs.client import Seat
+from server.tabs.doors import Strangers, address_group
+from server.tabs.tabs import Tab, parse_frame
 from running import PATIENCE, SMALL, Case, Server, transport_of, until
 from working import takes_at_most
 
@@ -108,7 +108,7 @@ class Frames(Case):
 
     async def test_a_tab_that_never_sends_a_name_is_disconnected_at_last(self) -> None:
         """Even a tab with the token is: there may be 200 such sockets."""
-        self.enterContext(mock.patch("server.tabs.NAMED", 0.1))
+        self.enterContext(mock.patch("server.tabs.tabs.NAMED", 0.1))
         tab = Tab(mock.Mock(**{"lab.keeper.settings.hello": 0.1}), mock.Mock(), mock.Mock())
         tab.has_token = True
         await asyncio.wait_for(tab._require_hello(), PATIENCE)

@@ -12,13 +12,13 @@ from faulty import Bus, Here, Message, message_of
 from oracle import oracle_of
 from zegdrut import Edit, RoadLab
 from running import ALL, SMALL, Case
-from server import stamps
-from server.refusals import Refused
+from server.journal import stamps
+from server.tabs.refusals import Refused
 from server.model.operations import Operation, Shape, exclude, put
 from server.model.projection import all_edits
-from server.screen import rows_of
-from server.state import State
-from server.records import read_plan_line
+from server.roads.screen import rows_of
+from server.journal.state import State
+from server.journal.records import read_plan_line
 
 CELLS, STEPS = range(50, 56), range(0, 30, 5)
 

@@ -9,8 +9,8 @@ from __future__ import annotations
 from typing import Any, Callable, Iterable, Mapping
 
 from server.model.operations import Operation, Shape, Stamp, is_raw, line_of
-from server.records import read_plan_line
-from server.state import plan_value
+from server.journal.records import read_plan_line
+from server.journal.state import plan_value
 
 Values = dict[tuple[str, int], list[Any]]
 COUNTED = {"block": "length", "limit": "zones", "slow": "zones", "start": "zones", "inflow": "inlets", "watch": "detectors"}

@@ -8,9 +8,9 @@ import subprocess
 import unittest
 from typing import Any, Sequence
 
-from server import saving
-from server.program import LONG_ROAD, command_of
-from server.client import RefusedReply
+from server.figures import saving
+from server.roads.program import LONG_ROAD, command_of
+from server.tabs.client import RefusedReply
 from running import SMALL, Case, program
 
 LAST = 150

@@ -6,7 +6,7 @@ from typing import Any, Sequence
 
 import numpy as np
 
-from server.records import read_plan_line
+from server.journal.records import read_plan_line
 from zegdrut import RoadLab
 
 Array = np.ndarray[Any, Any]

@@ -11,11 +11,11 @@ from typing import Any, Callable, Sequence
 
 from crashes import numbers
 from oracle import counting_operations
-from server.client import RefusedReply, Seat
+from server.tabs.client import RefusedReply, Seat
 from server.model.operations import Operation, Shape, Stamp, is_line
 from zegdrut import RoadLab
 from running import ALL, SMALL, Case, Server, until
-from server.records import read_plan_line
+from server.journal.records import read_plan_line
 
 LAST = 80
 PLAN: dict[str, Any] = {**SMALL, "length": 60, "zones": [[4, 9_000]] * 3, "inlets": [[0, 30_000], [25, 9_000]], "detectors": [20, 45]}

@@ -23,8 +23,8 @@ import unittest
 from pathlib import Path
 from typing import Any, Awaitable, Callable, Iterator
 
-from server.client import Seat
-from server.watch import SAID, Watch, is_of_server
+from server.tabs.client import Seat
+from server.background.watch import SAID, Watch, is_of_server
 from working import is_too_long
 from zegdrut import program_path
 

@@ -9,13 +9,13 @@ from unittest import mock
 
 from faulty import Here, soon
 from running import Case, new_folder
-from server import verbs
-from server.asked import CommandFields
+from server.tabs import verbs
+from server.tabs.asked import CommandFields
 from server.model.operations import edit
-from server.refusals import Refused
-from server.seating import SteadyClock
-from server.lab import Lab
-from server.state import size_of_part
+from server.tabs.refusals import Refused
+from server.tabs.seating import SteadyClock
+from server.journal.lab import Lab
+from server.journal.state import size_of_part
 
 
 def copied(folder: Path) -> Path:
@@ -70,7 +70,7 @@ class Seats(Case):
     async def test_a_seat_that_was_used_until_a_kill_is_not_free_after_it(self) -> None:
         """It is not, even if its tab joined days ago and never left."""
         now = [1_000_000.0]
-        with mock.patch("server.seating.time.time", lambda: now[0]):
+        with mock.patch("server.tabs.seating.time.time", lambda: now[0]):
             self.here.lab.seating.steady = SteadyClock(3_600, lambda: now[0], lambda: now[0])
             ada, ben = await self.here.join("Ada", "Ben")
             self.here.lab.seating.leave(ben)
@@ -91,7 +91,7 @@ class Seats(Case):
         """The machine's clock is three days ahead for a moment, or when the server starts. If days have really passed, seats are
         freed an hour later."""
         wall, passed = [1_000_000.0], [0.0]
-        with mock.patch("server.seating.time.time", lambda: wall[0]):
+        with mock.patch("server.tabs.seating.time.time", lambda: wall[0]):
             def looks(lab: Lab, minutes: int) -> str:
                 """Return who has a seat after this many minutes."""
                 for _ in range(minutes):
@@ -155,7 +155,7 @@ class Seats(Case):
     async def clock(self, rate: float, seconds: float) -> int:
         """Return how many steps a clock of this rate advances in some seconds."""
         keeper, lab = self.here.keeper, self.here.lab
-        with mock.patch("server.keeper.time.monotonic", lambda: self.time):
+        with mock.patch("server.journal.keeper.time.monotonic", lambda: self.time):
             await verbs.answer(lab, self.here.questions, 1, CommandFields("clock", {"rate": rate}), {})
             before = keeper.now()
             for _ in range(int(seconds)):
@@ -196,7 +196,7 @@ class Seats(Case):
 
     async def test_files_that_several_save_at_once_are_complete(self) -> None:
         """Tabs get pieces in turn. A tab that comes too late gets `Busy`."""
-        with mock.patch("server.saving.MOST_PIECE", 2_000):
+        with mock.patch("server.figures.saving.MOST_PIECE", 2_000):
             seats = await self.here.join("Ada", "Ben", "Cleo", "Dan", "Eve")
             alone = [await self.saved(seat) for seat in seats]
             pieces = [[await self.piece(seat, 0)] for seat in seats[:4]]
@@ -210,7 +210,7 @@ class Seats(Case):
             self.assertEqual(await self.saved(seats[4]), alone[4])
             for seat in seats[:4]:
                 await self.piece(seat, 0)
-            with mock.patch("server.saving.TRANSCRIPT_UNUSED", 0):
+            with mock.patch("server.figures.saving.TRANSCRIPT_UNUSED", 0):
                 await self.piece(seats[4], 0)  # of files that nobody fetches
 
     async def piece(self, seat: int, number: int) -> Any:

@@ -10,11 +10,11 @@ import unittest
 from typing import Any
 
 from running import LIVE, PATIENCE, SMALL, Broker, Case, Server, new_folder
-from server.admissions import Curve
-from server.records import read_plan_line
-from server.words import InvalidWords, find_chance, find_state, read_change
-from zegdrut.clock import Clock
-from zegdrut.wire import WrittenEdit
+from server.figures.curves import Curve
+from server.journal.records import read_plan_line
+from server.tabs.words import InvalidWords, find_chance, find_state, read_change
+from zegdrut.roads.clock import Clock
+from zegdrut.program.wire import WrittenEdit
 
 PLAN = read_plan_line(SMALL)
 
@@ -116,7 +116,7 @@ class Shell(Case):
             shapes: dict[str | None, Any] = {line["kind"]: line["shape"] for line in (await ada.ask("layers", at="shared", **{"from": 0}))["layers"]}
         chance = shapes.pop("inflow")[5]
         self.assertEqual(shapes, {"limit": ["limit", 1, 2, 600, None, 2]})
-        from zegdrut.demand import Drivers, measure_admission
+        from zegdrut.roads.demand import Drivers, measure_admission
         self.assertAlmostEqual(measure_admission(Drivers(5, 6_554)).admitted(chance), 1_200, delta=0.5)
 
     async def test_the_clock_is_set_and_seats_are_listed(self) -> None:

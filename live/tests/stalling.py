@@ -11,8 +11,8 @@ from pathlib import Path
 from typing import Any
 
 LIVE = Path(__file__).resolve().parent.parent
-sys.path[:0] = [str(LIVE), str(LIVE.parent / "recipes" / "python")]
-from server import journal  # noqa: E402
+sys.path.insert(0, str(LIVE))
+from server.journal import journal  # noqa: E402
 
 
 class Stalling:

@@ -14,15 +14,17 @@ from unittest import mock
 from crashes import numbers
 from faulty import Bus, Here, Message, message_of, told
 from running import SMALL, Case, new_folder
-from server import seals, stamps, verbs
-from server.asked import CommandFields
-from server.refusals import Refused
-from server.floods import Floods
-from server.journal import CannotStart
+from server.sites import seals
+from server.journal import stamps
+from server.tabs import verbs
+from server.tabs.asked import CommandFields
+from server.tabs.refusals import Refused
+from server.sites.floods import Floods
+from server.journal.journal import CannotStart
 from server.model.operations import About, Shape, edit, is_raw, put
-from server.records import Came, Folder, read_plan_line
-from server.sites import Sites
-from server.state import State
+from server.journal.records import Came, Folder, read_plan_line
+from server.sites.sites import Sites
+from server.journal.state import State
 
 DAY = 86_400_000  # milliseconds
 
@@ -281,7 +283,7 @@ class Strangers(Case):
     async def test_operations_more_than_a_day_ahead_are_reported_and_taken_on_their_day(self) -> None:
         """All sites do so, whatever they hold already."""
         clock = [now := stamps.milliseconds()]
-        with mock.patch("server.stamps.milliseconds", lambda: clock[0]):
+        with mock.patch("server.journal.stamps.milliseconds", lambda: clock[0]):
             (one, first), (two, second) = await self.here(1), await self.here(2)
             await self.put(two, "limit", 1, 40, 2)
             for ahead, count in ((DAY, 1), (DAY + 2_000, 1)):
@@ -305,7 +307,7 @@ class Strangers(Case):
         few operations may wait."""
         now = stamps.milliseconds()
         clock = [now]
-        with mock.patch("server.stamps.milliseconds", lambda: clock[0]):
+        with mock.patch("server.journal.stamps.milliseconds", lambda: clock[0]):
             here, site = await self.here(1)
 
             async def comes(*some: tuple[int, int]) -> None:
@@ -318,7 +320,7 @@ class Strangers(Case):
             self.assertIn("2 changes are stamped more than a day ahead", told(site))
             await comes((DAY + 1_000, 1 << 20))
             self.assertIn("2 changes are stamped more than a day ahead", told(site))  # an operation that does not fit the plan does not wait
-            with mock.patch("server.sites.MOST_EARLY", 9), mock.patch("server.sites.LONGEST_EARLY", 650):
+            with mock.patch("server.sites.sites.MOST_EARLY", 9), mock.patch("server.sites.sites.LONGEST_EARLY", 650):
                 await comes(*((DAY + 3_000, step) for step in range(4, 30)))
                 self.assertIn("8 changes are stamped more than a day ahead", told(site))
             await comes((DAY + 1_000, 2), (DAY + 2_000, 3))
@@ -331,7 +333,7 @@ class Strangers(Case):
         """The clock is three days ahead for one gesture. Everything goes on, and other sites take the gesture as soon as it is
         shared."""
         clock = [stamps.milliseconds()]
-        with mock.patch("server.stamps.milliseconds", lambda: clock[0]):
+        with mock.patch("server.journal.stamps.milliseconds", lambda: clock[0]):
             (one, first), (two, _) = await self.here(1), await self.here(2)
             await one.join("Ada")
             clock[0] += 3 * DAY
@@ -363,7 +365,7 @@ class Strangers(Case):
             self.bus.sites.remove(site)
             for other in self.bus.sites:
                 other._announce_site()
-            with mock.patch("server.peers.time.time", lambda: real() + seconds):
+            with mock.patch("server.sites.peers.time.time", lambda: real() + seconds):
                 for message in self.bus.sent:
                     await self.bus.give(site, message)
                 site._announce_site()
@@ -373,7 +375,7 @@ class Strangers(Case):
             self.assertNotIn("ahead of all", told(second) + told(third))
             return f"This server's clock is {seconds / 60:.0f} minutes ahead of all other sites'" in said
         later = [0.0]
-        with mock.patch("server.peers.time.monotonic", lambda: steady() + later[0]):
+        with mock.patch("server.sites.peers.time.monotonic", lambda: steady() + later[0]):
             for seconds, is_told in ((290, False), (310, True), (3 * 86_400, True), (0, False)):
                 later[0] += 61
                 self.assertEqual(await told_ahead(first, seconds), is_told, seconds)
@@ -472,7 +474,7 @@ class Keys(Case):
         """It costs the event loop nothing, and sealed messages are heard."""
         now = [0.0]
         await self.bus.rounds()
-        with mock.patch("server.floods.MESSAGE_BURST", 20), mock.patch("server.floods.MESSAGES_PER_SECOND", 1):
+        with mock.patch("server.sites.floods.MESSAGE_BURST", 20), mock.patch("server.sites.floods.MESSAGES_PER_SECOND", 1):
             self.second._floods = Floods(lambda: now[0])
             said: list[str] = []
             with mock.patch.object(self.second, "_say", said.append):
@@ -492,7 +494,7 @@ class Keys(Case):
         bus, now, came = Bus(), [0.0], []
         site, _ = bus.site(here), bus.site(self.one)
         await bus.rounds()
-        with mock.patch("server.floods.MESSAGE_BURST", 20), mock.patch("server.floods.MESSAGES_PER_SECOND", 1):
+        with mock.patch("server.sites.floods.MESSAGE_BURST", 20), mock.patch("server.sites.floods.MESSAGES_PER_SECOND", 1):
             site._floods = Floods(lambda: now[0])
             with mock.patch.object(Sites, "_receive", lambda _, topic, folder, body: came_in(folder)):
                 async def came_in(folder: str) -> None:
@@ -519,7 +521,7 @@ class Keys(Case):
 
     async def test_messages_replayed_after_a_restart_are_ignored(self) -> None:
         """Otherwise a replayed announcement, of this folder or of another one with its number, would stop it from sending."""
-        with mock.patch("server.seals.NUMBERS_RESERVED", 1):
+        with mock.patch("server.sites.seals.NUMBERS_RESERVED", 1):
             await self.bus.rounds(2)
             await self.share(50)
             caught = list(self.bus.seen)
@@ -538,7 +540,7 @@ class Keys(Case):
     async def test_messages_sent_after_a_restart_are_read_at_once(self) -> None:
         """Here the server ended, or was killed. Messages from before that are ignored."""
         for is_killed in (True, False):
-            with mock.patch("server.seals.NUMBERS_RESERVED", 200 if is_killed else 3_600_000):
+            with mock.patch("server.sites.seals.NUMBERS_RESERVED", 200 if is_killed else 3_600_000):
                 await self.bus.rounds(2)
                 await self.share(50 + is_killed)
                 caught, held = list(self.bus.seen), self.held(self.two)
@@ -562,7 +564,7 @@ class Keys(Case):
         for number in range(10_000, 20_000, 100):
             seals.Taken(path).take("a1", number, 9_000)
             self.assertGreaterEqual(seals.Taken(path).bound("a1"), number)
-        with mock.patch("server.seals.put_in_place", side_effect=OSError) as writes:
+        with mock.patch("server.sites.seals.put_in_place", side_effect=OSError) as writes:
             taken = seals.Taken(path)
             for number in range(20_000, 21_000, 10):
                 taken.take("a1", number, 9_000)
@@ -591,7 +593,7 @@ class Keys(Case):
     async def test_a_clock_days_ahead_is_reported_even_though_others_messages_look_old_there(self) -> None:
         self.first._announce_site()
         clock = time.time
-        with mock.patch("server.peers.time.time", lambda: clock() + 86_400), \
+        with mock.patch("server.sites.peers.time.time", lambda: clock() + 86_400), \
                 mock.patch.object(self.second._seal, "_clock", lambda: clock() + 86_400):
             for message in self.bus.sent:
                 await self.bus.give(self.second, message)
@@ -625,7 +627,7 @@ class Counting(unittest.TestCase):
                 looks.append(True)
                 return super().__iter__()
         clock, looks, soon, late = [0], list[bool](), 32 * DAY // 2, 32 * 3 * DAY
-        with mock.patch("server.stamps.milliseconds", lambda: clock[0]), mock.patch("server.stamps.random_bits", lambda: 0):
+        with mock.patch("server.journal.stamps.milliseconds", lambda: clock[0]), mock.patch("server.journal.stamps.random_bits", lambda: 0):
             state = State(stamps.StampClock())
             Folder(read_plan_line(SMALL), 1, "f").apply(state)
             state.by_stamp = Looked()
@@ -638,7 +640,7 @@ class Counting(unittest.TestCase):
         self.assertEqual(found, [(8, 0), (8, 0), (soon + 1, 0), (late + 1, 0), (soon + 1, 1), (soon + 1, 1)])
 
     def test_clones_that_stamp_in_one_millisecond_differ_in_five_random_bits(self) -> None:
-        with mock.patch("server.stamps.milliseconds", lambda: 1_000):
+        with mock.patch("server.journal.stamps.milliseconds", lambda: 1_000):
             counts = {stamps.StampClock().count_after(7) for _ in range(2_000)}
         self.assertEqual(counts, set(range(32_000, 32_032)))
 

@@ -12,12 +12,12 @@ from unittest import mock
 from faulty import Here
 from running import HELD_UP, Case, Watched, until
 from working import takes_at_most
-from server.client import Seat
-from server.keeper import Keeper
+from server.tabs.client import Seat
+from server.journal.keeper import Keeper
 from server.model.operations import About, edit
 from server.model.road import Road
-from server.tabs import Tab, Tabs
-from server.watch import SAID, Watch, is_of_server, keep_collections_short
+from server.tabs.tabs import Tab, Tabs
+from server.background.watch import SAID, Watch, is_of_server, keep_collections_short
 
 
 SHAPES = 130
@@ -136,11 +136,11 @@ class Pieces(Case):
             some = list(operations)
             added.append(len([one for one in some if one not in road]))
             return adding(road, some)
-        with mock.patch("server.state.APPLIED_AT_ONCE", 7), mock.patch.object(Road, "adding", counted):
+        with mock.patch("server.journal.state.APPLIED_AT_ONCE", 7), mock.patch.object(Road, "adding", counted):
             await here.lab.receive(many, "", {})
             self.assertEqual((await here.take(ada))["size"], 60)
         self.assertEqual((max(added), sum(added)), (7, 120))
-        with mock.patch("server.lab.LIST_AT_ONCE", 60):
+        with mock.patch("server.journal.lab.LIST_AT_ONCE", 60):
             for at in (f"seat{ada}", "shared"):
                 self.assertEqual(len((await here.ask(ada, "layers", at=at))["layers"]), 60)
 

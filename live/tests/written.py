@@ -13,15 +13,15 @@ from unittest import mock
 
 from faulty import Bus, Disk, Here, soon
 from running import Case, until
-from server import chance, figures
-from server.refusals import Refused
-from server.records import SeatUsed
-from server.journal import Journal
+from server.figures import days, figures
+from server.tabs.refusals import Refused
+from server.journal.records import SeatUsed
+from server.journal.journal import Journal
 from server.model.operations import About, Operation, edit
-from server.program import ProgramExited, Program
-from server.settings import Settings
-from server.stamps import StampClock
-from server.turns import MORE
+from server.roads.program import ProgramExited, Program
+from server.background.settings import Settings
+from server.journal.stamps import StampClock
+from server.roads.turns import MORE
 
 LIMIT = ["limit", 2, 50]
 
@@ -122,7 +122,7 @@ class Written(Case):
             return await ask_all(program, lines)
         for step in (50, 60, 70):
             await self.here.put(self.ada, ["limit", 2, step, step % 9])
-        with mock.patch.object(Program, "ask_all", held_up), mock.patch("server.program.IMPORT_EDITS", 1):
+        with mock.patch.object(Program, "ask_all", held_up), mock.patch("server.roads.program.IMPORT_EDITS", 1):
             share = asyncio.create_task(self.here.share(self.ada))
 
             async def is_kept() -> bool:
@@ -144,7 +144,7 @@ class Written(Case):
             for seat, at in ((self.ada, "seat1"), (self.ben, "seat2"), (self.ben, "shared")):  # which hold this so far
                 await self.here.ask(seat, "scenario", at=at)
             self.here.keeper.program.kill()
-            with mock.patch("server.keeper.start", none):
+            with mock.patch("server.journal.keeper.start", none):
                 await soon(act)
                 self.assertEqual(await self.refused(self.here.ask(self.ben, "scenario", at="shared")), "NoProgram")
         self.assertEqual([next(iter(one)) for one in self.here.entries()][-3:], ["made", "share", "take"])
@@ -399,7 +399,7 @@ def counted() -> Iterator[list[Any]]:
             return found
         return also
     with mock.patch.object(figures.Figures, "compute", kept(figures.Figures.compute)), mock.patch.object(
-            chance.Question, "answer", kept(chance.Question.answer)):
+            days.Question, "answer", kept(days.Question.answer)):
         yield computed
 
 
@@ -409,8 +409,8 @@ class Stalled(Case):
     async def asyncSetUp(self) -> None:
         self.disk = self.enterContext(Disk())
         for name, seconds in (("STALLS", 0.3), ("A_MOMENT", 0.2)):
-            self.enterContext(mock.patch(f"server.keeper.{name}", seconds))
-        for module in ("seating", "timing"):
+            self.enterContext(mock.patch(f"server.journal.keeper.{name}", seconds))
+        for module in ("tabs.seating", "journal.timing"):
             self.enterContext(mock.patch(f"server.{module}.A_MOMENT", 0.2))
         self.here = await self.enterAsyncContext(Here(site=1))
         self.keeper = self.here.keeper

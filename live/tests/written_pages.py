@@ -7,7 +7,7 @@ from typing import Any
 
 from faulty import Here, soon
 from running import SMALL, Case
-from server.refusals import Refused
+from server.tabs.refusals import Refused
 
 SPAN: dict[str, Any] = {"from": 60, "to": 600}
 ASKED = {"of": "mine", "title": "The road of <Ada>: 0:01:00 to 0:10:00", "works": ["Closed 0.45–0.458 km, 0:02:00–0:05:00", "a & b"]}

@@ -2,7 +2,7 @@
 from __future__ import annotations
 
 from zegdrut import Fault, Plan, RoadLab
-from zegdrut.rows import count_cars
+from zegdrut.program.rows import count_cars
 
 ALWAYS = 65_536
 AT_ONCE = 1 << 20

@@ -1,0 +1,1 @@
+"""Keep the server going: settings, listeners, and tasks that are watched and restarted."""

@@ -1,0 +1,1 @@
+"""Compute figures, reports and files of two roads, beside the shared road."""

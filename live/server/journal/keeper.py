@@ -1,0 +1,430 @@
+"""Keep a journal, and a program that simulates the roads that the journal says.
+
+The journal decides what the roads are, so the program can be replaced at any time: if it exits, if it has read almost as many lines
+as it can, or if a write fails after it got the edits. A replica of the program gets its missing edits and steps when it is next
+asked, one piece at a time.
+"""
+from __future__ import annotations
+
+import asyncio
+import contextlib
+import hashlib
+import json
+import logging
+import os
+import secrets
+import time
+from pathlib import Path
+from typing import Awaitable, Callable, Iterable, Mapping, TypeVar, Union
+
+from zegdrut.program.grammar import LAST_HORIZON
+
+from ..background.listeners import Listeners
+from ..background.settings import Settings
+from ..background.supervised import supervise
+from ..model.operations import Json, Operation
+from ..model.road import Road
+from ..roads.program import ProgramExited, Program, Times, command_of, start
+from ..roads.screen import Differences, Screen
+from ..roads.turns import MORE, Job, More, Turns
+from ..tabs.refusals import Refused
+from .journal import CannotStart, CorruptJournal, Entries, JournalLine, Journal, NotWritten, explain_fault, to_json, put_in_place, sync_folder
+from .records import JOURNAL_FORM, AnyEntry, Clock, Folder, Made, Upgraded, read_plan_line
+from .stamps import StampClock
+from .state import NO_PLAN, State
+
+MOST_UNDOABLE = 20  # newest private operations of a seat, which are never forgotten
+LONGEST_DISK_PAUSE = 60.0  # seconds between two tries of a disk that refuses writes
+STALLS = 5.0  # seconds without an answer of the disk after which the page says so
+A_MOMENT = 1.0  # seconds that a try of the disk may keep others waiting
+SHARED = 0
+T = TypeVar("T")
+
+
+class NotKept(Refused):
+    """The refusal of a change that could not be written to the disk."""
+
+    def __init__(self, fault: object) -> None:
+        super().__init__("NotWritten", f"the change was not saved, so it was not made: {fault}. Try again later")
+
+
+async def do_nothing() -> None:
+    """Do nothing. As a job, it only waits for its turn."""
+
+
+class Keeper:
+    """A folder's journal, the state that it describes, and a program that simulates it."""
+
+    def __init__(self, folder: Path, program: str, settings: Settings) -> None:
+        self.folder, self.path, self.settings = folder, program, settings
+        self.stamps = StampClock(settings.milliseconds)
+        self.state = State(self.stamps, time.time_ns() // 1_000)
+        self.target_steps: dict[int, int] = {}  # by replica: the step up to which it shall be simulated
+        self.connected: set[int] = set()  # seats with a tab
+        self.turns = Turns(self._with_program, may_be_within=lambda: self.journal.failures == self._forgotten)
+        self.changes = 0  # how often the program was replaced
+        self.why_changed: str | None = None  # why it was replaced, for people; None if that was planned
+        self.undo_count = 0  # operations that were undone or withdrawn since the oldest were forgotten
+        self._trouble: str | None = None
+        self._is_stalled = False
+        self._try: asyncio.Future[str | None] | None = None  # the last try of a disk that refused writes
+        self.confirmed = 0  # how many of the shared operations are on the disk; nobody is shown the others
+        self._forgotten = 0  # the number of failed writes after which the state was read again from the disk
+        self.clock_started = time.monotonic()
+        self._former: int | None = None  # the form of a journal that still has to be rewritten in this form
+        self._unapplied: dict[asyncio.Future[None], AnyEntry] = {}  # written entries that take effect once they are on the disk
+        self.differences = Differences()
+        self._screen: Screen | None = None
+        self._next: asyncio.Future[Screen] | None = None
+        self.tasks: list[asyncio.Task[None]] = []
+        self.listeners = Listeners()
+
+    # Start
+
+    async def open(self, plan: Callable[[], Mapping[str, Json]], site: int | None) -> bool:
+        """Read the journal, or begin one with this plan, and start the program. Return whether the journal is new. Raise `CannotStart`
+        if the journal cannot be read. If the program refuses the plan, the folder is left as it was."""
+        path = self.folder / "journal.jsonl"
+        entries = Entries(path)
+        self.state, count, form = self._read(entries)
+        self.confirmed = self.state.shared.size
+        is_new = count == 0
+        if not is_new and site not in (None, self.state.site):
+            raise CannotStart(f"{self.folder} belongs to site {self.state.site} for ever: start it without --site, or use a new folder")
+        if is_new:
+            first: dict[str, Json] = {**plan(), "replicas": [self.state.replica(seat.index).at for seat in self.state.seats]}
+            # A program must accept the plan before it is written to the journal.
+            await (await start(command_of(self.path, first), to_json(first).encode())).close()
+        self.journal = Journal(path, entries.size)
+        if is_new:
+            await self.record(Folder(read_plan_line(first), site or 1, secrets.token_hex(8)))
+        elif form != JOURNAL_FORM:
+            self._former = form
+            await self._upgrade()
+        self.clock_started = time.monotonic()
+        self._forget()
+        self._screen = await self._start()
+        self.tasks = [supervise("the answers to tabs", self.turns.run, self.report_end),
+                      supervise("the watch over the disk", self._watch_disk, self.report_end),
+                      supervise("the task that shortens the journal", self.shorten_journal, self.report_end)]
+        return is_new
+
+    async def _upgrade(self) -> None:
+        """Copy a journal of a former form to another file, and rewrite the journal in this form. Wait until the disk accepts writes."""
+        if self._former is None or self.journal.fault is not None:
+            return
+        kept = self.journal.path.with_name(f"journal.form{self._former}.jsonl")
+        if not kept.exists():
+            os.close(put_in_place(kept, [self.journal.path.read_bytes()]))
+            sync_folder(kept.parent)
+        form, self._former = self._former, None
+        await self.journal.write(Upgraded().written())
+        await self.compact()
+        logging.warning("the journal had form %d: it was rewritten in form %d, and the old one is kept as %s", form, JOURNAL_FORM, kept)
+
+    async def compact(self) -> None:
+        """Shorten the journal: write the present state, with each operation once."""
+        await self.journal.compact(lambda: (entry.written() for entry in (*self.state.entries(), *self._unapplied.values())))
+
+    async def shorten_journal(self) -> None:
+        """Shorten the journal whenever it is too long; never return."""
+        size = self.settings.most_journal
+        while True:
+            await asyncio.sleep(1)
+            if self.journal.size > size:
+                await self.compact()
+                size = max(self.settings.most_journal, 2 * self.journal.size)
+
+    def _read(self, entries: Iterable[JournalLine]) -> tuple[State, int, int]:
+        """Return the state that entries describe, their number, and the form of the journal."""
+        number = 0
+        state = State(self.stamps, time.time_ns() // 1_000)
+        for number, entry in enumerate(entries, 1):
+            try:
+                state.read(entry)
+            except CorruptJournal as fault:
+                raise CorruptJournal(f"{self.folder / 'journal.jsonl'}, line {number}: {fault}") from None
+        if number and state.plan is NO_PLAN:
+            raise CorruptJournal(f"{self.folder / 'journal.jsonl'} does not begin with a plan")
+        form = state.form
+        state.end_reading()
+        state.shared.prepare()
+        return state, number, form
+
+    def report_end(self, sentence: str) -> None:
+        """Tell people that a task of the server has ended and is started again."""
+        self.listeners.ended.notify(sentence)
+
+    async def close(self) -> None:
+        """End the program and close the journal. All that was confirmed is on the disk."""
+        for task in self.tasks:
+            task.cancel()
+        if self._screen is not None:
+            self.program.kill()
+        self.cancel_successor()
+        if hasattr(self, "journal"):
+            await self.journal.close()
+
+    def record(self, entry: AnyEntry) -> asyncio.Future[None]:
+        """Apply an entry to the state at once, and write it. The future is done when the entry is on the disk."""
+        self._check_disk()
+        entry.apply(self.state)
+        if isinstance(entry, Made):
+            one = entry.operation
+            self.undo_count += one.undoes is not None or None in one.sets.values()
+        upto = self.state.shared.size
+
+        def confirm() -> None:
+            self.confirmed = max(self.confirmed, upto)
+        done = self.journal.write(entry.written(), confirm)
+        done.add_done_callback(self._is_written)
+        return done
+
+    def apply_when_written(self, entry: AnyEntry, then: Callable[[], None]) -> asyncio.Future[None]:
+        """Write an entry, and apply it to the state once it is on the disk; then the future is done."""
+        def apply() -> None:
+            self._unapplied.pop(done)
+            entry.apply(self.state)
+            then()
+        self._check_disk()
+        done = self.journal.write(entry.written(), apply)
+        self._unapplied[done] = entry
+        done.add_done_callback(self._is_written)
+        return done
+
+    def _is_written(self, done: asyncio.Future[None]) -> None:
+        self._unapplied.pop(done, None)
+        if not done.cancelled() and done.exception() is not None:
+            self.turns.ask(SHARED, do_nothing)  # before this job the state is read again from the disk
+
+    # The disk
+
+    @property
+    def trouble(self) -> str | None:
+        """Return a sentence that says what is wrong with the disk; None if nothing is."""
+        if self._trouble is None and self._is_stalled:
+            return (f"the disk has not answered for {STALLS:g} seconds: new changes are pending until it does; confirmed changes "
+                    f"can still be viewed")
+        return self._trouble
+
+    async def _watch_disk(self) -> None:
+        """Report when the disk has not answered for some seconds, and when it answers again. It may never answer."""
+        while True:
+            await asyncio.sleep(STALLS / 10)
+            if self.journal.has_waited(STALLS) != self._is_stalled:
+                self._is_stalled = not self._is_stalled
+                logging.warning("the disk %s", "does not answer" if self._is_stalled else "answers again")
+                self.listeners.trouble.notify()
+
+    def _check_disk(self) -> None:
+        if self.journal.fault is not None:
+            raise NotKept(self.journal.fault)
+
+    async def require_writable(self) -> None:
+        """Try the disk again if it refused the last write. Raise `Refused` if it still refuses. A job calls this before it writes."""
+        if self.journal.fault is None:
+            return
+        if self.journal.failures != self._forgotten:
+            raise NotKept(self.journal.fault)
+        if self._try is None or self._try.done():
+            self._try = asyncio.ensure_future(self._try_disk())
+        elif self.journal.has_waited(A_MOMENT):
+            raise NotKept("the disk does not answer")
+        if not (await asyncio.wait([self._try], timeout=A_MOMENT))[0]:
+            raise NotKept("the disk does not answer")
+        fault = self._try.result()
+        if fault is not None:
+            raise NotKept(fault)
+
+    async def _try_disk(self) -> str | None:
+        """Try the disk. Return why it refuses writes, or None if it accepts them. This may never return."""
+        try:
+            await self.journal.probe_disk(self.clock().written())
+        except OSError as fault:
+            return explain_fault(fault)
+        await self._upgrade()
+        self._trouble = None
+        self.listeners.trouble.notify()
+        return None
+
+    async def wait_until_writable(self) -> None:
+        """While the disk refuses writes, try it again after growing pauses."""
+        pause = 1.0
+        while self.journal.fault is not None:
+            with contextlib.suppress(Refused):
+                await self.turns.ask(SHARED, self.require_writable)
+                return
+            await asyncio.sleep(pause)
+            pause = min(LONGEST_DISK_PAUSE, 2 * pause)
+
+    def clock(self) -> Clock:
+        """Return the clock: the present step, the steps per second, and the step at which a fast clock stops."""
+        return Clock(self.state.rate, self.now(), self.state.stop)
+
+    async def _start_over(self) -> None:
+        """After a failed write, return to the confirmed state, and replace the program. This is done once for each failure. From then on
+        all that was confirmed can be viewed, whether or not the disk accepts writes."""
+        failures = self.journal.failures
+        logging.error("%s: returning to the state on the disk", self.journal.fault)
+        self._trouble = self.journal.fault
+        self.listeners.trouble.notify()
+        try:
+            state, _, _ = await asyncio.to_thread(lambda: self._read(self.journal.read_confirmed()))
+        except (OSError, CannotStart) as fault:
+            raise NotKept(f"the journal cannot be read ({fault})") from None
+        clock, self.state, self.confirmed = self.clock(), state, state.shared.size
+        clock.apply(self.state)
+        self.clock_started = time.monotonic()
+        await self.replace()
+        self._forgotten = failures
+        self.listeners.shared.notify(0)
+        self.listeners.seats.notify()
+
+    @property
+    def reference(self) -> str:
+        """Return a hash of the plan and seed, without the names of replicas. Sites with the same hash have the same road."""
+        return hashlib.sha256(json.dumps({**self.state.plan, "replicas": 0}, sort_keys=True).encode()).hexdigest()[:16]
+
+    # The program
+
+    async def _start(self) -> Screen:
+        """Start a program, whose replicas all have the road of the plan."""
+        program = await start(command_of(self.path, self.state.plan), to_json(self.state.plan).encode())
+        return Screen(program, self.state.empty)
+
+    @property
+    def screen(self) -> Screen:
+        assert self._screen is not None
+        return self._screen
+
+    @property
+    def program(self) -> Program:
+        return self.screen.program
+
+    async def _with_program(self, job: Callable[[], Awaitable[T]]) -> T:
+        """Do a job with a program that runs and has no edits that failed to be written. Replace a program that exits, once."""
+        try:
+            for _ in range(2):
+                if self.journal.failures != self._forgotten:
+                    await self._start_over()
+                self._replace_in_time()
+                try:
+                    return await job()
+                except ProgramExited as fault:
+                    logging.warning("%s: starting a new one", fault)
+                    await self.replace(str(fault))
+        except ProgramExited as fault:
+            logging.error("%s", fault)
+        raise Refused("NoProgram", "the program crashed on this twice; the server's log says why")
+
+    async def replace(self, why: str | None = None) -> None:
+        """Replace the program. The replicas of the new one get their roads when they are next asked."""
+        self.cancel_successor()
+        self.why_changed = why
+        old, self._screen = self._screen, await self._start()
+        self.changes += 1
+        if old is not None:
+            old.program.kill()
+        self.listeners.program.notify()
+
+    def _forget(self) -> None:
+        """Forget private operations that have no effect any more, except the newest. No road differs without them."""
+        self.undo_count = 0
+        for seat in self.state.seats[1:]:
+            self.state.forget(seat, MOST_UNDOABLE)
+
+    def cancel_successor(self) -> None:
+        if self._next is not None:
+            self._next.cancel()
+            self._next = None
+
+    def _replace_in_time(self) -> None:
+        """Start a successor of the program in the background if the program is near its limit of lines, or holds many edits without an
+        effect. Switch to the successor once it has simulated as far as the program."""
+        if self._next is not None and self._next.done():
+            successor, self._next = self._next, None
+            if successor.exception() is None:
+                asyncio.ensure_future(self.program.close())
+                self._screen, self.changes, self.why_changed = successor.result(), self.changes + 1, None
+                self.listeners.program.notify()
+            else:
+                logging.warning("a new program, which is to replace the present one, could not be started: %s", successor.exception())
+        settings = self.settings
+        is_due = (self.program.lines >= settings.most_lines or self.undo_count >= settings.most_undone
+                   or self.screen.withdrawn >= settings.most_withdrawn)
+        if self._next is None and is_due:
+            self._forget()
+            self._next = asyncio.ensure_future(self._start_successor())
+
+    async def _start_successor(self) -> Screen:
+        screen = await self._start()
+        try:
+            for index in (SHARED, *self.connected):
+                while not await self._run_to_target(screen, index):
+                    pass
+        except BaseException:
+            screen.program.kill()
+            raise
+        return screen
+
+    def road(self, index: int) -> Road:
+        """Return the road that a replica of the program shall simulate. The shared one has the operations that are on the disk."""
+        return self.state.shared.upto(self.confirmed) if index == SHARED else self.state.seats[index].road
+
+    async def _run_to_target(self, screen: Screen, index: int) -> bool:
+        """Send a replica its missing edits, or simulate some of its missing steps. Return whether nothing is missing any more."""
+        at, road, shown = self.state.replica(index).at, self.road(index), screen.shown(index)
+        if shown is not road:
+            await screen.show(index, at, road, await self.differences.between(shown, road))
+            return False
+        to = self.target_steps.get(index, 0)
+        return screen.program.horizons.get(at, 0) >= to or await screen.program.advance(at, to) >= to
+
+    def ask(self, turn: int, replicas: tuple[int, ...], body: Job[T], at_leisure: bool = False,
+            takes_long: bool | None = None) -> asyncio.Future[T]:
+        """Do a job in the turn of a seat, when these replicas have their edits and steps. If a write fails before the job has ended,
+        raise `NotKept`, since the job may have seen a state that no longer exists."""
+        async def job() -> Union[T, More]:
+            failures.add(self.journal.failures)
+            if len(failures) > 1:
+                raise NotKept(self.journal.fault or "the disk did not accept it")
+            for index in replicas:
+                if not await self._run_to_target(self.screen, index):
+                    return MORE
+            return await body()
+        failures: set[int] = set()
+        return self.turns.ask(turn, job, at_leisure, takes_long)
+
+    def is_confirmed(self, one: Operation) -> bool:
+        """Return whether a shared operation is on the disk."""
+        return self.state.shared.places.get(one, self.confirmed) < self.confirmed
+
+    async def read_committed(self, look: Callable[[], Awaitable[T]], may_see: str = "all") -> T:
+        """Return the result of `look` once all that it may have seen is on the disk. `may_see` says what it may have seen that is not yet
+        there: "nothing", what was "shared", or "all". If a write fails, look again."""
+        while True:
+            failures = self._forgotten  # not the journal's count, since a state that is about to be discarded may still be seen
+            try:
+                found = await look()
+                if may_see == "all" or may_see == "shared" and self.confirmed < self.state.shared.size:
+                    await self.journal.wait_until_written()
+            except (NotKept, NotWritten):
+                if failures == self._forgotten == self.journal.failures:
+                    raise
+            else:
+                if failures == self._forgotten == self.journal.failures:
+                    return found
+            await self.turns.ask(SHARED, do_nothing)
+
+    async def say(self, line: bytes, times: Times) -> bytes:
+        """Return the program's reply to a line; raise its refusal. To be called in a job."""
+        return (await self.say_all([line], times))[0]
+
+    async def say_all(self, lines: list[bytes], times: Times) -> list[bytes]:
+        """Return the program's replies to lines that are sent at once; raise the first refusal."""
+        return await self.program.say_all(lines, times)
+
+    def now(self) -> int:
+        """Return the step at which the road's clock is."""
+        last = LAST_HORIZON if self.state.stop is None else self.state.stop
+        return min(last, self.state.now + int(self.state.rate * (time.monotonic() - self.clock_started)))

@@ -1,0 +1,371 @@
+"""Make operations for seats, and share and take them.
+
+An operation is checked, applied to the state, written to the journal, and given to the program, in this order. Since it was checked,
+the program accepts its edits. This module has no sockets.
+"""
+from __future__ import annotations
+
+import asyncio
+import contextlib
+import time
+from dataclasses import replace
+from typing import Awaitable, Callable, Mapping, Sequence, TypedDict, TypeVar, Union
+
+from ..background.supervised import supervise
+from ..model.changes import lines_of
+from ..model.choices import find_overruling, sendable, find_undoable, would_change
+from ..model.demands import kept_demand, written_demand
+from ..model.operations import (About, Json, Operation, RawName, Shape, Stamp, edit, exclude, sort_by_stamp, lift, put, restamp,
+                               undo)
+from ..model.road import Road, change, repeat, is_standing
+from ..roads.program import Times
+from ..roads.screen import first_step
+from ..tabs.asked import RawEdit
+from ..tabs.lines import Act, Lister
+from ..tabs.refusals import Refused
+from ..tabs.seating import Seating
+from .checks import Checks
+from .keeper import SHARED, Keeper
+from .records import Bound, Came, CameBack, Made, Share, StampedAnew, Take, Works
+from .state import Replica, SeatReplica, State
+from .timing import Timing
+from .writing import Write, wait_until_written
+
+MOST_IN_TAKE = 200  # operations in the reply to a take
+LOOKED_AT = 500  # operations that are looked at for news
+LIST_AT_ONCE = 0.02  # seconds for the lines of a reply; the page asks for the remaining lines
+MOST_BLOCKED = 5  # operations that undo skips, in a reply
+
+ReplyFields = Mapping[str, object]
+"""The fields of a reply to a tab."""
+NewsReply = TypedDict("NewsReply", {"size": int, "from": "list[str]", "shares": "list[dict[str, Json]]", "changes": "list[Act]"})
+Called = Union[Stamp, str]  # a stamp, or the key of an operation of the seat
+MakeOperation = Callable[[SeatReplica, Stamp, About], Operation]  # makes an operation of this stamp
+T = TypeVar("T")
+
+
+class FutureStamp(Refused):
+    """The refusal of another site's operation that takes effect later."""
+
+    def __init__(self, one: Operation) -> None:
+        super().__init__("Count", f"the stamp {list(one.stamp)} of {one.about.who} is more than a day ahead of the clock: the "
+                         f"operation takes effect when that day comes")
+
+
+def add_fields(about: About, more: Mapping[str, Json]) -> About:
+    """Return the author, time and note of an operation, with more fields."""
+    return replace(about, more=more) if more else about
+
+
+class Lab:
+    """The laboratory behind a server."""
+
+    def __init__(self, keeper: Keeper) -> None:
+        self.keeper = keeper
+        self.seating, self.timing = Seating(keeper), Timing(keeper)
+        self._pending: dict[tuple[int, str], list[asyncio.Future[None]]] = {}  # by seat and key: entries that are being written
+
+    async def open(self, plan: Callable[[], Mapping[str, Json]], site: int | None) -> bool:
+        """Open the keeper's folder. Return whether it is new."""
+        is_new = await self.keeper.open(plan, site)
+        self._checks = Checks(self.state.plan)
+        self.keeper.tasks.append(supervise("the task that saves the clock and frees seats", self._look_after,
+                                            self.keeper.report_end))
+        return is_new
+
+    @property
+    def state(self) -> State:
+        return self.keeper.state
+
+    async def _look_after(self) -> None:
+        """Save the clock and free unused seats, at intervals."""
+        settings, rounds = self.keeper.settings, 0
+        while True:
+            await asyncio.sleep(1)
+            await self.keeper.wait_until_writable()
+            if self.keeper.journal.fault is not None:
+                continue
+            rounds += 1
+            self.timing.save()
+            if rounds % 10 == 0 or settings.day < 60:
+                self.seating.free_unused()
+
+    # Operations
+
+    async def put_shape(self, index: int, times: Times, *, key: str, note: str, shape: Shape, demand: float | None = None,
+                        is_planned: bool = False) -> ReplyFields:
+        """Put a shape on top of all. `demand` is what an inflow chance stands for, in cars per hour; it `is_planned` if it is the demand
+        of the road's file."""
+        self._checks.check_shape(shape)
+        more = written_demand(demand, is_planned)
+        return await self._make(index, key, note, times, lambda seat, stamp, about: put(stamp, shape, add_fields(about, more)))
+
+    async def change_line(self, index: int, times: Times, *, key: str, note: str, line: Called, shape: Shape | None,
+                          top: bool, demand: float | None = None) -> ReplyFields:
+        """Change the shape of a line, or withdraw the line if `shape` is None. It keeps its height unless `top` is true."""
+        if shape is not None:
+            self._checks.check_shape(shape)
+
+        def make_operation(seat: SeatReplica, stamp: Stamp, about: About) -> Operation:
+            changed = self._find_line(seat, line)
+            said = demand if demand is not None or shape is None else kept_demand(seat.road, changed, shape)
+            return change(seat.road, stamp, changed, shape, top, add_fields(about, written_demand(said)))
+        return await self._make(index, key, note, times, make_operation)
+
+    async def lift_line(self, index: int, times: Times, *, key: str, note: str, line: Called) -> ReplyFields:
+        """Put a line on top, with its present shape."""
+        return await self._make(index, key, note, times, lambda seat, stamp, about: lift(
+            stamp, self._find_line(seat, line), about))
+
+    async def put_edits(self, index: int, times: Times, *, key: str, note: str, edits: Sequence[RawEdit],
+                        shape: Shape | None = None) -> ReplyFields:
+        """Put raw edits. `shape` is only shown, and has no effect."""
+        values: dict[RawName, int | None] = {(kind, thing, step): value for kind, thing, step, value in edits}
+        for name, value in values.items():
+            self._checks.check_edit(name, value)
+        return await self._make(index, key, note, times, lambda seat, stamp, about: edit(
+            stamp, values, About(about.who, about.note, about.when, shape)))
+
+    async def undo(self, index: int, times: Times, *, key: str, note: str, stamp: Called) -> ReplyFields:
+        """Undo an operation."""
+        def make_operation(seat: SeatReplica, new: Stamp, about: About) -> Operation:
+            undone = self._find_operation(seat, stamp)
+            if not would_change(seat.road, undone):
+                raise Refused("NothingToUndo", self._why_nothing(seat, undone))
+            return undo(new, undone, about)
+        return await self._make(index, key, note, times, make_operation)
+
+    async def put_again(self, index: int, times: Times, *, key: str, stamp: Called) -> ReplyFields:
+        """Repeat what an operation did to its lines, on top of all."""
+        def make_operation(seat: SeatReplica, new: Stamp, about: About) -> Operation:
+            old = self._find_operation(seat, stamp)
+            if not old.names:
+                raise Refused("NothingToPut", "an undo cannot be repeated: change the line itself")
+            return repeat(seat.road, new, old, About(about.who, old.about.note, about.when, old.about.shape, old.about.more))
+        return await self._make(index, key, "", times, make_operation)
+
+    async def exclude_site(self, index: int, times: Times, *, key: str, note: str, site: int, out: bool) -> ReplyFields:
+        """Ignore all past and future operations of a site if `out` is true; otherwise include them again."""
+        if site == self.state.site:
+            raise Refused("OwnSite", f"site {site} cannot exclude itself: another site must do it")
+        return await self._make(index, key, note, times, lambda seat, stamp, about: exclude(stamp, site, out, about))
+
+    def _find_stamp(self, seat: SeatReplica, called: Called) -> Stamp:
+        stamp = seat.done.get(called) if isinstance(called, str) else seat.renamed.get(called, called)
+        if stamp is None:
+            raise Refused("NoSuchChange", f"this seat has made no change with the key {called}")
+        return stamp
+
+    def _find_line(self, seat: SeatReplica, called: Called) -> Stamp:
+        """Return the name of a line of the seat's list. `called` is that name, or an operation that changed the line."""
+        line = self._find_stamp(seat, called)
+        if not is_standing(seat.road, line) and not seat.road.setters_of(line):
+            held = self.state.held_by(seat, line)
+            if not held:
+                raise Refused("NoSuchChange", f"this seat holds no change with the name {list(line)}: if it is somebody else's, `take` first")
+            lines = lines_of(seat.road, held[0])
+            line = line if line in lines else min(lines)
+            if any(one.excludes for one in self.state.of_stamp(line)):
+                raise Refused("NoSuchChange", "this line excludes a site and has no shape: include the site again, or undo the exclusion")
+        return line
+
+    def _find_operation(self, seat: SeatReplica, called: Called) -> Operation:
+        stamp = self._find_stamp(seat, called)
+        held = self.state.held_by(seat, stamp)
+        if not held:
+            raise Refused("NoSuchChange", f"this seat holds no change with the stamp {list(stamp)}: if it is somebody else's, `take` first")
+        return held[0]
+
+    def _why_nothing(self, seat: SeatReplica, one: Operation) -> str:
+        """Return why the undo of an operation would change nothing."""
+        record = seat.road.record
+        if one.site in record.excluded:
+            return f"site {one.site} is excluded, so this change has no effect already"
+        by = [other for other in find_overruling(seat.road, one) if other is not one]
+        if not record.counts(one):
+            by = [other for other in record.undos_of(one) if record.counts(other)]
+            return f"{' and '.join(sorted({other.about.who for other in by}))} undid this change already"
+        later = sorted({other.about.who for other in by if other.names or other.excludes})
+        return f"{' and '.join(later)} changed its line since" if later else "nothing of this change is in force any more"
+
+    async def _make(self, index: int, key: str, note: str, times: Times, make_operation: MakeOperation) -> ReplyFields:
+        """Make an operation, at most one for each key. Return the reply when the operation is on the disk."""
+        async def make(write: Write) -> ReplyFields:
+            seat = self.seating.require_owned(index)
+            if key in seat.done:  # a tab sends a key again after a lost connection: confirm the operation that it made then
+                write.dones.extend(self._pending.get((index, key), ()))
+                return {"stamp": seat.done[key], "touched": None, "again": True, **self.list_of(seat, seat.version)}
+            await write.require_writable()
+            self._restamp_early(seat, write)
+            before, version = seat.road, self._list_version(seat)
+            one = self._new_operation(seat, note, make_operation)
+            write.record(Made(index, one, key))
+            self._pending[index, key] = write.dones
+            write.dones[-1].add_done_callback(lambda _: self._pending.pop((index, key), None))
+            return {"stamp": one.stamp, "touched": await self._first_difference(before, seat.road), **self.list_of(seat, version)}
+        return await self._write(index, make, times, takes_long=False)
+
+    def _find_early(self, seat: SeatReplica) -> list[Operation]:
+        """Return the private operations that are stamped more than a day ahead of the clock."""
+        latest = self.keeper.stamps.latest_count()
+        return [one for one in self.state.private(seat) if one.stamp[0] > latest]
+
+    def _restamp_early(self, seat: SeatReplica, write: Write) -> None:
+        """Give new stamps to private operations that a wrong clock has stamped more than a day ahead. Other sites would not take them."""
+        early = sort_by_stamp(self._find_early(seat))
+        if not early:
+            return
+        count, number = self.state.stamp(seat)
+        stamps = {one.stamp: (count + place, number) for place, one in enumerate(early)}
+        with contextlib.suppress(ValueError):  # one refers to a shared operation with a later stamp: they wait for their day
+            restamp(early, stamps)
+            write.record(StampedAnew(seat.index, stamps))
+
+    def _new_operation(self, seat: SeatReplica, note: str, make_operation: MakeOperation) -> Operation:
+        """Return a new operation. Raise `Refused` if not every site would take it, or if it would change nothing."""
+        stamp = self.state.stamp(seat)
+        try:
+            one = make_operation(seat, stamp, About(seat.name, note, int(time.time())))
+        except ValueError:
+            raise Refused("Count", "the change that you want to change is stamped more than a day ahead of the clock: wait until that "
+                          "day") from None
+        self.check(one)
+        if one.site in seat.road.record.excluded:
+            raise Refused("SiteExcluded", "this site is excluded: changes made here have no effect until another site includes it again")
+        after = seat.road.adding([one])
+        if after.layers == seat.road.layers and after.record.excluded == seat.road.record.excluded:
+            raise Refused("NoEffect", self._why_no_effect(one))
+        return one
+
+    def _why_no_effect(self, one: Operation) -> str:
+        if one.excludes is not None:
+            return f"site {one.excludes[0]} is {'excluded' if one.excludes[1] else 'included'} already"
+        if not one.sets:
+            return "this change is on top already, or nothing of it is in force any more"
+        if not any(one.sets.values()):
+            return "nothing of this change is in force any more, so there is nothing to withdraw"
+        return "the road already has these values"
+
+    async def _first_difference(self, before: Road, after: Road) -> int | None:
+        """Return the first step from which two roads differ."""
+        return first_step(await self.keeper.differences.between(before, after))
+
+    async def _write(self, turn: int, make: Callable[[Write], Awaitable[T]], times: Times, takes_long: bool | None = None) -> T:
+        """Call `make` in the turn of a seat, and return its result when all entries that it wrote are on the disk. The program gets the
+        edits when it is next asked."""
+        write = Write(self.keeper)
+        made: T = await self.keeper.ask(turn, (), lambda: make(write), takes_long=takes_long)
+        await write.wait_until_written(times)
+        return made
+
+    # Lists
+
+    def _list_version(self, seat: SeatReplica) -> int:
+        """Return the version of a seat's list. Begin the list if it was not begun."""
+        seat.begin_list()
+        return seat.version
+
+    def list_of(self, replica: Replica, version: int) -> ReplyFields:
+        """Return the lines that have changed since a version of the list, and what undo and redo would do."""
+        marks = replica.begin_list()
+        lines, after = Lister(self.state, replica).lines_since(marks, version - replica.begun, LIST_AT_ONCE)
+        found = find_undoable(replica.road, replica.number)
+        return {"layers": lines, "since": version, "next": replica.version if after is None else replica.begun + after,
+                "more": after is not None, "undo": found.undo and found.undo.stamp, "redo": found.redo and found.redo.stamp,
+                "blocked": self._blocked(replica.road, found.blocked)}
+
+    def _blocked(self, road: Road, some: list[Operation]) -> list[ReplyFields]:
+        """Return the seat's operations that undo skips, each with the names of those who changed its line since."""
+        return [{"stamp": one.stamp, "by": sorted({other.about.who for other in find_overruling(road, one)
+                                                   if other.stamp[1] != one.stamp[1]})} for one in some[:MOST_BLOCKED]]
+
+    # What is shared
+
+    async def share(self, index: int, times: Times, *, stamps: set[Stamp] | None, title: str) -> ReplyFields:
+        """Share the operations of a seat with these stamps; without stamps all that have an effect."""
+        async def make(write: Write) -> tuple[list[Stamp], int | None]:
+            seat, shared = self.seating.require_owned(index), self.state.shared
+            if self._find_early(seat):
+                await write.require_writable()
+                self._restamp_early(seat, write)
+            chosen = None if stamps is None else {seat.renamed.get(stamp, stamp) for stamp in stamps}
+            given = seat.shareable() if chosen is None else sendable(seat.road, shared.road, seat.number, chosen)
+            before = shared.road
+            if given:
+                await write.require_writable()
+                write.record(Share(index, [one.stamp for one in given], seat.name, title, int(time.time())))
+            return [one.stamp for one in given], await self._first_difference(before, shared.road)
+        found, touched = await self._write(index, make, times)
+        if found:
+            self.keeper.listeners.shared.notify(touched)
+        return {"message": "shared", "size": len(found), "stamps": found, "touched": touched}
+
+    async def take(self, index: int, times: Times) -> ReplyFields:
+        """Take all operations that have been shared so far."""
+        async def make(write: Write) -> ReplyFields:
+            seat = self.seating.require_owned(index)
+            await write.require_writable()
+            version, before, upto = self._list_version(seat), seat.road, seat.upto
+            came = self.state.unseen(seat, self.keeper.confirmed)
+            if seat.upto < self.keeper.confirmed:
+                write.record(Take(index, self.keeper.confirmed))
+                await seat.catch_up()
+            shared = self.state.shared
+            edits = await self.keeper.differences.between(before, seat.road, (shared.upto(upto), shared.upto(seat.upto)))
+            lister = Lister(self.state, seat)
+            return {"touched": first_step(edits), "size": len(came),
+                    "changes": [lister.operation(one, None) for one in came[-MOST_IN_TAKE:]], **self.list_of(seat, version)}
+        return await self._write(index, make, times, takes_long=True)
+
+    def unseen_shares(self, index: int, most: int) -> NewsReply:
+        """Return what others have shared and this seat has not taken, with the newest `most` operations."""
+        seat, shared, upto = self.state.seats[index], self.state.shared, self.keeper.confirmed
+        begin = max(seat.upto, upto - LOOKED_AT)  # a seat that never takes may have missed very many
+        fresh = [one for one in shared.operations(begin, upto) if one not in seat.own]
+        shares = [one for one in self.state.shares if seat.upto < one.upto <= upto]
+        lister = Lister(self.state, shared, self.keeper.road(SHARED))
+        return {"size": len(fresh) + begin - seat.upto, "from": sorted({one.about.who for one in fresh})[:10],
+                "shares": [one.reply_fields() for one in shares[-20:]],
+                "changes": [lister.operation(one, None) for one in fresh[-most:]]}
+
+    async def record_works(self) -> None:
+        """Let every new seat from now on start with all that is shared so far."""
+        await wait_until_written(self.keeper.record(Works(self.keeper.confirmed)), {})
+
+    # What comes from other sites
+
+    async def receive(self, operations: list[Operation], title: str, times: Times) -> bool:
+        """Hold operations of another site, which have passed `check`, on the shared road. Return whether any was new. `times` gets the
+        seconds of `work`."""
+        async def make(write: Write) -> int | None:
+            shared = self.state.shared
+            fresh = [one for one in operations if one not in shared.road]
+            if not fresh:
+                return None
+            await write.require_writable()
+            before, began = shared.road, time.thread_time()
+            write.record(Came(fresh, fresh[0].about.who, title, int(time.time()), is_unsent=False))
+            await shared.catch_up()
+            touched = await self._first_difference(before, shared.road)
+            times["work"] = time.thread_time() - began
+            is_new.append(True)
+            return touched
+        is_new: list[bool] = []
+        touched = await self._write(SHARED, make, times)
+        if not is_new:
+            await wait_until_written(self.keeper.journal.wait_until_written(), times)
+            return False
+        self.keeper.listeners.shared.notify(touched)
+        return True
+
+    def check(self, one: Operation) -> None:
+        """Raise `Refused` if an operation, of a seat or of another site, is not one that every site takes."""
+        self._checks.check_operation(one)
+
+    async def bind(self, number: int, folder: str) -> None:
+        """Bind a site's number to a folder, in the journal."""
+        await wait_until_written(self.keeper.record(Bound(number, folder)), {})
+
+    async def acknowledge(self, stamps: list[Stamp]) -> None:
+        """Note that these operations came back from the broker, so they need not be sent again."""
+        await wait_until_written(self.keeper.record(CameBack(stamps)), {})

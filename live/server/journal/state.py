@@ -1,0 +1,448 @@
+"""Hold the state that a folder's journal describes: the plan, the seats, and the operations that each seat holds.
+
+    state = State()
+    for entry in read_entries(path)[0]: state.read(entry)
+    entry.apply(state)                     a new entry
+    entries = list(state.entries())        as few entries as possible that give the same state
+
+Seat 0 is the shared road, which holds the shared operations in order of arrival. Every other seat holds its own operations, and the
+first ones of the shared road.
+"""
+from __future__ import annotations
+
+import asyncio
+import itertools
+from typing import Iterable, Iterator, Mapping
+
+from zegdrut.program.wire import PlanLine
+
+from ..model.changes import all_lines, find_altered_lines, lines_of, operations_on
+from ..model.choices import find_forgettable, shareable
+from ..model.operations import SEATS, Operation, Stamp, is_raw, intern_int, restamp
+from ..model.road import Road
+from .former_journal import Former
+from .journal import CorruptJournal
+from .records import (JOURNAL_FORM, AllNews, AnyEntry, Bound, Came, Clock, Fields, Folder, Keys, Made, News, SeatFreed,
+                      SeatGiven, Take, Works, read_entry)
+from .stamps import StampClock
+
+TAB_FORM = 4  # the protocol of tabs
+SITE_FORM = 3  # the protocol of sites
+MOST_NEWS = 100
+APPLIED_AT_ONCE = 100  # operations that are applied before others get a turn
+LAYERS_PER_UNIT = 12  # layers of an operation that count as one more operation
+MOST_SHARED_ROADS = 8  # values of the shared road that are kept for seats that take
+
+NO_PLAN: PlanLine = {"length": 0, "inlets": (), "zones": (), "zone": 0, "exit": 0, "detectors": (), "words": 0, "replicas": ()}
+"""The plan of a state that has not read a plan."""
+
+
+def plan_value(plan: PlanLine, kind: str, index: int) -> int | None:
+    """Return the value that the plan gives an object; None for `start`, which a plan does not set."""
+    if kind == "block":
+        return 0
+    if kind == "watch":
+        return 1
+    if kind == "start":
+        return None
+    if kind == "inflow":
+        return int(plan["inlets"][index][1])
+    if kind in ("limit", "slow"):
+        return int(plan["zones"][index][kind == "slow"])
+    raise ValueError(f"no kind of object: {kind}")
+
+
+def size_of_part(some: list[Operation]) -> int:
+    """Return how many of these operations, from the first on, are applied at once: fewer if they are large."""
+    work = itertools.accumulate(1 + len(one.sets) // LAYERS_PER_UNIT for one in some)
+    return max(1, sum(1 for _ in itertools.takewhile(lambda done: done <= APPLIED_AT_ONCE, work)))
+
+
+class Replica:
+    """A road with the list of its changes. New operations wait until somebody asks for the road."""
+
+    def __init__(self, index: int, state: State) -> None:
+        self.index, self._state = index, state
+        self.begun = self.version = state.begun  # the first and the present version of its list
+        self.marks: dict[Stamp, int] | None = None  # line -> version of its last change, relative to `begun`
+        self.places: dict[Operation, int] = {}  # operation -> its place in order of arrival
+        self.size: int = 0  # how many operations it holds
+        self._road: Road | None = None
+        self._waiting: list[Operation] = []
+
+    @property
+    def at(self) -> str:
+        """Return its name in the program."""
+        return f"seat{self.index}" if self.index else "shared"
+
+    @property
+    def number(self) -> int:
+        """Return the number in its stamps."""
+        return SEATS * self._state.site + self.index
+
+    @property
+    def road(self) -> Road:
+        if self._road is None:
+            self._road, self._waiting = self.build(), []
+        if self._waiting:
+            waiting, self._waiting = self._waiting, []
+            self.become(self._road.adding(waiting))
+        return self._road
+
+    async def catch_up(self) -> None:
+        """Apply waiting operations in pieces, so that other seats get their turn in between. The property `road` still applies all."""
+        while self._road is not None and (size := size_of_part(self._waiting)) < len(self._waiting):
+            part, self._waiting = self._waiting[:size], self._waiting[size:]
+            self.become(self._road.adding(part))
+            await asyncio.sleep(0)
+
+    def build(self) -> Road:
+        """Build its road from all the operations that it holds."""
+        raise NotImplementedError
+
+    def become(self, road: Road) -> None:
+        """Replace the road, and mark the lines that may look different."""
+        before, self._road = self._road, road
+        if self.marks is not None and before is not None:
+            self.mark(sorted(find_altered_lines(before, road)))
+
+    def hold(self, operations: Iterable[Operation]) -> list[Operation]:
+        """Hold operations, and return those that are new."""
+        fresh = []
+        for one in operations:
+            if one not in self.places:
+                self.places[one] = intern_int(self.size)
+                self.size += 1
+                fresh.append(one)
+        if self._road is not None:
+            self._waiting += fresh
+        return fresh
+
+    def mark(self, lines: Iterable[Stamp]) -> None:
+        """Mark lines of the list as altered, in this order."""
+        if self.marks is not None:
+            for line in lines:
+                self.version += 1
+                self.marks[line] = intern_int(self.version - self.begun)
+
+    def begin_list(self) -> dict[Stamp, int]:
+        """Return the marks. The first time, all lines are new."""
+        road = self.road
+        if self.marks is None:
+            self.marks = {}
+            self.mark(sorted(all_lines(road)))
+        return self.marks
+
+
+class SharedReplica(Replica):
+    """The shared road."""
+
+    def __init__(self, state: State) -> None:
+        super().__init__(0, state)
+        self._order: list[Operation] = []
+        self._roads: dict[int, Road] = {}  # by the number of operations: values of the road
+
+    def build(self) -> Road:
+        return self.upto(self.size)
+
+    def hold(self, operations: Iterable[Operation]) -> list[Operation]:
+        fresh = super().hold(operations)
+        self._order += fresh
+        return fresh
+
+    def operations(self, first: int = 0, end: int | None = None) -> list[Operation]:
+        """Return its operations in order of arrival, from place `first` to before `end`."""
+        return self._order[first:end]
+
+    def upto(self, size: int) -> Road:
+        """Return the road of the first `size` operations."""
+        if size not in self._roads:
+            base = max((one for one in self._roads if one < size), default=0)
+            road = self._roads[base] if base in self._roads else self._state.empty
+            self.keep(size, road.adding(self._order[base:size]))
+        return self._roads[size]
+
+    def keep(self, size: int, road: Road) -> None:
+        """Keep a value of the road for the seats that will need it, and drop values that none needs."""
+        self._roads[size] = road
+        used = {seat.upto for seat in self._state.seats if seat.key}
+        for old in [one for one in self._roads if one not in used][:-MOST_SHARED_ROADS]:
+            del self._roads[old]
+
+    def become(self, road: Road) -> None:
+        super().become(road)
+        self.keep(self.size - len(self._waiting), road)
+
+    def prepare(self) -> None:
+        """Build the roads that will be needed, before anybody asks."""
+        for size in sorted({self.size, *(seat.upto for seat in self._state.seats if seat.key)}):
+            self.upto(size)
+
+
+class SeatReplica(Replica):
+    """A seat: who has it, and what it holds."""
+
+    def __init__(self, index: int, state: State, count: int = 0) -> None:
+        super().__init__(index, state)
+        self.name, self.key = "", ""  # `key` is the hash of its tab's key; empty if nobody has the seat
+        self.count = count  # the greatest count in its stamps
+        self.upto = 0  # how many operations of the shared road it has taken
+        self.used: float = 0  # when it last had a tab, in seconds since 1970, in seconds since 1970
+        self.own: dict[Operation, None] = {}  # made at this seat, in order
+        self.done: dict[str, Stamp] = {}  # its operations by their keys
+        self.renamed: dict[Stamp, Stamp] = {}  # the stamps of operations that were stamped again
+        self.idle: frozenset[Operation] = frozenset()  # private ones that need not be shared, as the list shows
+        self._shareable: tuple[Road, Road, list[Operation]] | None = None
+
+    def build(self) -> Road:
+        return self._state.shared.upto(self.upto).adding(self.own)
+
+    def rebuild(self) -> None:
+        """Build its road again from all the operations that it holds."""
+        if self._road is not None:
+            self._waiting = []
+            self.become(self.build())
+
+    def rebuild_without(self, lines: set[Stamp], others: set[Operation]) -> None:
+        """Build its road again after operations on these lines were forgotten. Lines without operations leave the list. Raw edits of
+        `others` that replaced forgotten ones may now belong to different lines, so mark the lines of these operations, too."""
+        before, after = self.road, self.build()
+        self._road = after
+        left = {line for line in lines if operations_on(after, line)}
+        left |= {line for one in others for road in (before, after) for line in lines_of(road, one)}
+        self.mark(sorted(left))
+        if self.marks is not None:
+            self.marks = {line: version for line, version in self.marks.items() if line in left or line not in lines}
+
+    def shareable(self) -> list[Operation]:
+        """Return the private operations that would change the shared road."""
+        if not self._state.private(self):
+            return []
+        road, shared = self.road, self._state.shared.road
+        if self._shareable is None or self._shareable[0] is not road or self._shareable[1] is not shared:
+            self._shareable = road, shared, shareable(road, shared, self.number, self._all_shared(shared))
+        return self._shareable[2]
+
+    def _all_shared(self, shared: Road) -> Road:
+        """Return the shared road with all private operations added. Start from the last such road, which has most of them."""
+        lately = self._state.lately
+        known, then = lately.pop(self.index, (shared, shared))
+        lately[self.index] = shared, (then if known is shared else shared).adding(self._state.private(self))
+        if len(lately) > MOST_SHARED_ROADS:
+            del lately[next(iter(lately))]
+        return lately[self.index][1]
+
+    def look_for_idle(self) -> None:
+        """Mark the lines whose operations have become idle, or are no longer idle."""
+        given = set(self.shareable())
+        idle = frozenset(one for one in self._state.private(self) if one not in given)
+        changed, self.idle = idle ^ self.idle, idle
+        self.mark(sorted({line for one in changed if one in self.places for line in lines_of(self.road, one)}))
+
+    def begin_list(self) -> dict[Stamp, int]:
+        marks = super().begin_list()
+        self.look_for_idle()
+        return marks
+
+
+class State:
+    """All that a journal determines."""
+
+    def __init__(self, clock: StampClock | None = None, begun: int = 0) -> None:
+        """`clock` makes stamps. Versions of lists begin above `begun`."""
+        self.begun = begun
+        self.plan: PlanLine = NO_PLAN
+        self.site, self.folder, self.form = 0, "", JOURNAL_FORM
+        self.bound: dict[int, str] = {}  # site's number -> the folder that had it first
+        self.unsent: dict[Operation, None] = {}  # shared at this site, but not yet returned by the broker
+        self.titles: dict[Operation, str] = {}  # the title under which an operation was shared
+        self.shares: list[News] = []
+        self.works = 0  # how many operations of the shared road every new seat starts with
+        self.rate: float = 0
+        self.now = 0
+        self.stop: int | None = None
+        self.by_stamp: dict[Stamp, Operation] = {}
+        self._twins: dict[Stamp, tuple[Operation, ...]] = {}  # other operations with the same stamp
+        self._greatest, self._later = 0, list[int]()  # the greatest count not too far ahead of the clock, and those beyond
+        self.lately: dict[int, tuple[Road, Road]] = {}  # by seat: the shared road, and the same road with all private operations
+        self._clock = clock or StampClock()
+        self._former: Former | None = None
+        self.empty = Road(lambda kind, index: plan_value(self.plan, kind, index))
+        self.shared = SharedReplica(self)
+        self.seats: list[SeatReplica] = []
+        self.seats = [SeatReplica(index, self) for index in range(SEATS)]
+
+    def replica(self, index: int) -> Replica:
+        """Return the replica of a seat; of seat 0 the shared one."""
+        return self.seats[index] if index else self.shared
+
+    # Entries
+
+    def read(self, entry: Mapping[str, Fields]) -> None:
+        """Apply an entry of a journal, of any form; raise `CorruptJournal` if it is malformed."""
+        (kind, value), = entry.items()
+        try:
+            if self._former is None or not self._former.apply(kind, value):
+                read_entry(kind, value).apply(self)
+        except (KeyError, IndexError, TypeError, ValueError, OverflowError) as fault:
+            why = str(fault) if isinstance(fault, ValueError) else repr(fault)
+            raise CorruptJournal(f"malformed entry `{kind}`: {why}") from None
+
+    def begin(self, plan: PlanLine, site: int, folder: str, form: int) -> None:
+        self.plan, self.site, self.folder, self.form = plan, site, folder, form
+        self._former = Former(self) if form < JOURNAL_FORM else None
+
+    def end_reading(self) -> None:
+        """Note that the whole journal, or its part in a former form, has been read: new entries have the present form."""
+        self.form, self._former = JOURNAL_FORM, None
+
+    def intern(self, one: Operation) -> Operation:
+        """Return the equal operation that is already held, or this one."""
+        known = self.of_stamp(one.stamp)
+        found = next((other for other in known if other.is_same(one)), None)
+        if found is None:
+            self._set_stamp(one.stamp, (*known, one))
+            if one.stamp[0] > self._greatest:
+                self._later.append(one.stamp[0])
+        return found or one
+
+    def of_stamp(self, stamp: Stamp) -> tuple[Operation, ...]:
+        """Return the operations with a stamp: none, one, or twins."""
+        first = self.by_stamp.get(stamp)
+        return () if first is None else (first, *self._twins.get(stamp, ()))
+
+    def _set_stamp(self, stamp: Stamp, some: tuple[Operation, ...]) -> None:
+        self.by_stamp.pop(stamp, None)
+        self._twins.pop(stamp, None)
+        if some:
+            self.by_stamp[stamp] = some[0]
+        if len(some) > 1:
+            self._twins[stamp] = some[1:]
+
+    def hold_own(self, seat: SeatReplica, one: Operation) -> None:
+        """Let a seat hold an operation of its own."""
+        seat.own[one] = None
+        seat.hold([one])
+        self._raise_count(one)
+
+    def hold_shared(self, operations: Iterable[Operation], is_unsent: bool, title: str = "") -> list[Operation]:
+        """Let the shared road hold operations. Return those that are new there."""
+        fresh = self.shared.hold(operations)
+        for one in fresh:
+            self._raise_count(one)
+            if is_unsent:
+                self.unsent[one] = None
+            if title:
+                self.titles[one] = title
+            seat = self.seats[one.stamp[1] % SEATS]
+            if one in seat.own and seat.marks is not None:
+                seat.mark(sorted(lines_of(seat.road, one)))  # it is not private any more
+        return fresh
+
+    def _raise_count(self, one: Operation) -> None:
+        """Raise the count of an operation's seat if it is above, also if the operation came from another site."""
+        count, number = one.stamp
+        if number // SEATS == self.site:
+            own = self.seats[number % SEATS]
+            own.count = max(own.count, count)
+
+    def take(self, seat: SeatReplica, upto: int) -> None:
+        came, seat.upto = self.unseen(seat, upto), max(seat.upto, upto)
+        seat.hold(came)
+
+    def free(self, index: int, count: int) -> None:
+        old = self.seats[index]
+        self.lately.pop(index, None)
+        self.seats[index] = SeatReplica(index, self, max(old.count, count))
+
+    def add_news(self, news: News) -> None:
+        self.shares = [*self.shares, news][-MOST_NEWS:]
+
+    # Questions
+
+    def stamp(self, seat: SeatReplica) -> Stamp:
+        """Return a new stamp for a seat. It is above all stamps that are held here or that this site made, so a change wins over older
+        ones even if the clock was set back. Stamps that are too far ahead of the clock are ignored."""
+        latest = self._clock.latest_count()
+        if self._greatest > latest:  # the clock has gone back
+            self._greatest, self._later = 0, [count for count, _ in self.by_stamp]
+        self._greatest = max((count for count in self._later if count <= latest), default=self._greatest)
+        self._later = [count for count in self._later if count > latest]
+        made = max((other.count for other in self.seats if other.count <= latest), default=0)
+        return self._clock.count_after(max(self._greatest, made)), seat.number
+
+    def private(self, seat: SeatReplica) -> list[Operation]:
+        """Return the seat's own operations that have not been shared."""
+        return [one for one in seat.own if one not in self.shared.places]
+
+    def unseen(self, seat: SeatReplica, upto: int | None = None) -> list[Operation]:
+        """Return the shared operations that the seat has not taken and does not hold already."""
+        return [one for one in self.shared.operations(seat.upto, upto) if one not in seat.places]
+
+    def held_by(self, seat: SeatReplica, stamp: Stamp) -> list[Operation]:
+        return [one for one in self.of_stamp(stamp) if one in seat.places]
+
+    def stamp_anew(self, seat: SeatReplica, stamps: Mapping[Stamp, Stamp]) -> None:
+        """Give private operations of a seat new stamps. The old stamps still name them, too."""
+        old = [one for one in self.private(seat) if one.stamp in stamps]
+        new = restamp(old, stamps)
+        for one in old:
+            self._drop(seat, one)
+        for one in map(self.intern, new):
+            self.hold_own(seat, one)
+        seat.done = {key: stamps.get(stamp, stamp) for key, stamp in seat.done.items()}
+        seat.renamed.update(stamps)
+        self.lately.pop(seat.index, None)
+        seat.rebuild()
+
+    # Forgetting
+
+    def _drop(self, seat: SeatReplica, one: Operation) -> None:
+        """Drop a private operation."""
+        del seat.own[one], seat.places[one]
+        self._set_stamp(one.stamp, tuple(other for other in self.of_stamp(one.stamp) if other is not one))
+
+    def forget(self, seat: SeatReplica, kept: int) -> None:
+        """Drop private operations that no longer have an effect, except the newest `kept`. No road differs without them."""
+        private = self.private(seat)
+        if len(private) <= kept:
+            return
+        gone = find_forgettable(seat.road, self.shared.road, seat.number, kept) & set(private)
+        if not gone:
+            return
+        lines = {line for one in gone for line in lines_of(seat.road, one)}
+        others = {other for one in gone for name in one.sets if is_raw(name) for other in seat.road.setters_of(name)}
+        for one in gone:
+            self._drop(seat, one)
+        seat.rebuild_without(lines, others - gone)
+
+    # Compaction
+
+    def entries(self) -> Iterator[AnyEntry]:
+        """Yield entries that give the same state, each operation once."""
+        yield Folder(self.plan, self.site, self.folder)
+        yield Clock(self.rate, self.now, self.stop)
+        for number, folder in self.bound.items():
+            yield Bound(number, folder)
+        for seat in self.seats[1:]:
+            if seat.key:
+                yield SeatGiven(seat.index, seat.name, seat.key, seat.used, seat.count)
+            elif seat.count:
+                yield SeatFreed(seat.index, seat.count)
+        for one in self.shared.operations():
+            yield self._shared_entry(one)
+        yield AllNews(self.shares)
+        if self.works:
+            yield Works(self.works)
+        for seat in self.seats[1:]:
+            yield from (Made(seat.index, one) for one in self.private(seat))
+            if seat.upto:
+                yield Take(seat.index, seat.upto)
+            if seat.done:
+                yield Keys(seat.index, seat.done)
+
+    def _shared_entry(self, one: Operation) -> AnyEntry:
+        own = self.seats[one.stamp[1] % SEATS]
+        if one.stamp[1] // SEATS == self.site and one in own.own:
+            return Made(own.index, one, is_shared=True, is_unsent=one in self.unsent, title=self.titles.get(one, ""))
+        return Came([one], title=self.titles.get(one, ""), is_unsent=one in self.unsent)

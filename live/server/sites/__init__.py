@@ -1,0 +1,1 @@
+"""Exchange shared operations with other sites, through a broker."""

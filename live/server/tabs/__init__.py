@@ -1,0 +1,1 @@
+"""Talk with tabs: connections, seats, commands with their fields, refusals, and the answers to queries."""

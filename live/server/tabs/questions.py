@@ -1,0 +1,422 @@
+"""Answer the queries of tabs. A query changes no road."""
+from __future__ import annotations
+
+import asyncio
+import json
+import time
+from typing import Mapping, Sequence, TypeVar, Union
+
+from zegdrut import Edit
+from zegdrut.figures.lost import find_entry
+from zegdrut.figures.trips import DetectorCount, Window, count_seconds_on
+from zegdrut.program.grammar import LAST_HORIZON
+from zegdrut.program.rows import count_cars
+from zegdrut.program.wire import CountReply, WrittenEdit
+
+from ..figures import child, curves, days, figures, report, saving
+from ..figures.figures import DetectorFigures, TwoDemands, TwoRoads
+from ..journal.journal import to_json
+from ..journal.keeper import SHARED
+from ..journal.lab import Lab
+from ..journal.lab import ReplyFields as Fields
+from ..journal.state import Replica
+from ..journal.timing import STEPS_AHEAD
+from ..model.changes import all_lines, find_altered_lines
+from ..model.choices import sendable
+from ..model.demands import asked_demands
+from ..model.operations import Json, Operation, Stamp
+from ..model.projection import Edits
+from ..model.road import Road
+from ..roads import rows
+from ..roads.plans import clock_of, name_of
+from ..roads.program import LONG_ROAD, Times
+from ..roads.roads import SIDES, KeptRoad, Preview, Previews, AskedRoad, Side
+from ..roads.screen import first_step, rows_of
+from ..roads.turns import MORE, Job, More
+from .lines import Line, Lister
+from .refusals import Refused
+
+MOST_ROWS, MOST_BYTES = 1_024, 1_100_000  # rows in a reply, and their bytes
+MOST_COUNTS = 4_096
+MINUTE = 60  # steps
+MOST_MINUTES = 120  # in a query of sums
+ASKED_AT_ONCE = 128
+MOST_AGAIN = 16  # times that a query begins again because its road has changed
+PIECE_OF_LIST = 1_000_000  # bytes, approximately, of operations in a reply
+LINES_FOR = 0.02  # seconds for making lines until others get their turn
+
+Reply = Union[bytes, Fields]
+T = TypeVar("T")
+
+
+def detector_count(said: CountReply, edits: list[Edit], detector: int, window: Window) -> DetectorCount:
+    """Return what a detector counted in a window, given the program's reply. `edits` are those of detectors, which switch them."""
+    return DetectorCount(said["cars"], said["speeds"], count_seconds_on(edits, detector, window), window.steps)
+
+
+class Questions:
+    """Answers the queries of seats, each in the turn of its seat."""
+
+    def __init__(self, lab: Lab) -> None:
+        self._lab, self._keeper = lab, lab.keeper
+        self._previews, self._days, self._figures = Previews(), days.DayQuestions(), figures.Figures()
+        self._saved, self._curves = saving.Saved(), curves.Curves(lab.keeper.folder)
+
+    def road(self, index: int, at: str) -> AskedRoad:
+        """Return a road of a seat. `at` is "own", "shared", or a side of its preview."""
+        if at in SIDES:
+            return Side(self._previews.get(index), at)
+        return KeptRoad(self._keeper, index, 0 if at == "shared" else index)
+
+    def close(self) -> None:
+        self._previews.close()
+        self._days.stop()
+        self._figures.close()
+        self._curves.close()
+
+    def drop_seat(self, index: int) -> None:
+        """Drop previews, questions and transcripts of a seat whose tab has gone."""
+        self._previews.put(index, None)
+        self._days.stop(index)
+        self._saved.drop(index)
+
+    async def ask_program(self, road: AskedRoad, times: Times, verb: str, fields: Mapping[str, Json]) -> bytes:
+        """Forward a command to the program, and return its reply."""
+        asked: Fields = {"at": road.name, **fields}
+        line = to_json({verb: asked}).encode()
+
+        async def body() -> bytes:
+            return (await road.say_all([line], times))[0]
+        return await road.run_job(body)
+
+    async def advance(self, road: AskedRoad, to: int) -> Reply:
+        """Simulate a road up to a step, which may be some hours ahead of the clock."""
+        self._require_reachable(to)
+        return {"horizon": await road.advance(to)}
+
+    def _require_reachable(self, to: int) -> None:
+        """Raise `Refused` if a road would run further than the clock may be set."""
+        now = self._keeper.now()
+        if to > LAST_HORIZON:
+            raise Refused("Horizon", f"`to` must be at most {LAST_HORIZON}, not {to}")
+        if to > now + STEPS_AHEAD:
+            raise Refused("TooFarAhead", f"a road runs at most {STEPS_AHEAD} steps ahead of the clock, which is at {now}: `to` must be "
+                          f"at most {now + STEPS_AHEAD}, not {to}")
+
+    # Rows
+
+    async def diagram(self, road: AskedRoad, times: Times, *, first: int, last: int, every: int,
+                      cells: tuple[int, int] | None) -> Reply:
+        """Return every n-th row from the step `first` to `last`, with all cells or with the cells from one to another."""
+        left, right = cells or (0, self._length - 1)
+        if not left <= right < self._length:
+            raise Refused("Range", f"`cells` must be two cells from 0 to {self._length - 1}, the smaller first")
+        count = (last - first) // every + 1
+        if first > last or count > MOST_ROWS:
+            raise Refused("Range", f"`from` must be at most `to`, and a reply has at most {MOST_ROWS} rows, not {count}")
+        if count * (right - left + 4) > MOST_BYTES:
+            raise Refused("Range", f"{count} rows of {right - left + 1} cells are too many bytes: ask for at most "
+                          f"{MOST_BYTES // (right - left + 4)} rows")
+        found = await self._rows(road, list(range(first, last + 1, every)), times)
+        return rows.diagram_of([row[left:right + 1] for row in found])
+
+    async def _rows(self, road: AskedRoad, steps: list[int], times: Times) -> list[bytes]:
+        """Return the rows of these steps, which are equally spaced. In each turn of the seat get as many as a reply may have."""
+        found: list[bytes] = []
+
+        async def body() -> More | None:
+            part = steps[len(found):len(found) + self._rows_at_once()]
+            found.extend(await self._ask_rows(road, part, times))
+            return MORE if len(found) < len(steps) else None
+        await road.run_job(body)
+        return found
+
+    @property
+    def _length(self) -> int:
+        return self._keeper.state.plan["length"]
+
+    def _rows_at_once(self) -> int:
+        return min(MOST_ROWS, MOST_BYTES // (self._length + 3))
+
+    async def _ask_rows(self, road: AskedRoad, steps: list[int], times: Times) -> list[bytes]:
+        every = steps[1] - steps[0] if len(steps) > 1 else 1
+        if every >= 8 or every >= 2 and self._length >= LONG_ROAD:
+            at = to_json(road.name)
+            lines = [f'{{"cells":{{"at":{at},"step":{step}}}}}'.encode() for step in steps]
+            return [rows.of_cells(reply) for reply in await road.say_all(lines, times)]
+        found: list[bytes] = []
+        for first, last in rows.split_steps(steps[0], steps[-1], MOST_ROWS // every * every):
+            line = to_json({"diagram": {"at": road.name, "from": first, "to": last}})
+            found += rows.of_diagram((await road.say_all([line.encode()], times))[0])[::every]
+        return found
+
+    async def sums(self, road: AskedRoad, times: Times, first: int, last: int) -> Reply:
+        """Return for each whole minute the time that cars spend on the road, in car-seconds: the sum of the cars in its 60 rows."""
+        if first % MINUTE or last % MINUTE or not 0 < last - first <= MOST_MINUTES * MINUTE:
+            raise Refused("Range", f"`from` and `to` must be multiples of {MINUTE}, and 1 to {MOST_MINUTES} minutes apart")
+        cars: list[int] = []
+
+        async def body() -> More | None:
+            start = first + 1 + len(cars)
+            part = await self._ask_rows(road, list(range(start, min(last + 1, start + self._rows_at_once()))), times)
+            cars.extend(count_cars(row.decode("ascii")) for row in part)
+            return MORE if len(cars) < last - first else None
+        await self._of_one_road(road, cars, body)
+        return {"sums": [sum(cars[begin:begin + MINUTE]) for begin in range(0, len(cars), MINUTE)]}
+
+    async def counts(self, road: AskedRoad, times: Times, *, first: int, last: int, each: int | None) -> Reply:
+        """Return what all detectors count, in spans of `each` steps or as a whole."""
+        spans = await self._count_spans(road, times, first, last, each)
+        pairs = [[[one["cars"], one["speeds"]] for one in span] for span in spans]
+        return {"counts": pairs[0], "flows": spans[0]} if each is None else {"counts": pairs, "flows": spans}
+
+    async def _count_spans(self, road: AskedRoad, times: Times, first: int, last: int,
+                       each: int | None) -> list[list[DetectorFigures]]:
+        """Return what each detector counts, for each span of `each` steps."""
+        if first > last:
+            raise Refused("Range", f"`from` {first} is above `to` {last}")
+        starts = range(first, last, each) if each else range(first, first + 1)
+        detectors = len(self._keeper.state.plan["detectors"])
+        if len(starts) * detectors > MOST_COUNTS:
+            raise Refused("Range", f"{len(starts) * detectors} counts are too many: a reply has at most {MOST_COUNTS}")
+        lines = [to_json({"count": {"at": road.name, "detector": detector, "from": start,
+                                   "to": min(last, start + each) if each else last}}).encode()
+                 for start in starts for detector in range(detectors)]
+        replies, edits = await self._lines(road, lines, times)
+        watched = [Edit.read(edit) for edit in edits if edit[0] == "watch"]
+        windows = [Window(start, min(last, start + each) if each else last) for start in starts]
+        return [[figures.detector_figures(detector_count(json.loads(replies[place * detectors + detector]), watched, detector, window))
+                 for detector in range(detectors)] for place, window in enumerate(windows)]
+
+    async def _lines(self, road: AskedRoad, lines: list[bytes], times: Times) -> tuple[list[bytes], Sequence[WrittenEdit]]:
+        """Return the program's replies to lines, and all edits of the road as rows of an import; both are of the same state of the road."""
+        found: list[bytes] = []
+
+        async def body() -> More | None:
+            if len(found) < len(lines):
+                found.extend(await road.say_all(lines[len(found):len(found) + ASKED_AT_ONCE], times))
+            return MORE if len(found) < len(lines) else None
+        mark = await self._of_one_road(road, found, body)
+        if isinstance(road, Side):
+            return found, road.edits
+        assert mark is not None  # (only the roads of a preview never change)
+        return found, rows_of(await self._timeline(mark))
+
+    async def _of_one_road(self, road: AskedRoad, found: list[T], body: Job[None]) -> Road | None:
+        """Call `body`, which appends to `found`, until it is done. If the road changes meanwhile, empty `found` and begin again. Return
+        the road's mark."""
+        marks: list[Road | None] = []
+
+        async def part() -> More | None:
+            if marks[-1:] != [road.mark()]:
+                if len(marks) > MOST_AGAIN:
+                    raise Refused("Busy", "the road keeps changing: try again later")
+                marks.append(road.mark())
+                found.clear()
+            return await body()
+        await road.run_job(part, at_leisure=True)
+        return marks[-1]
+
+    # Lists
+
+    async def layers(self, index: int, replica: Replica, version: int) -> Reply:
+        """Return the lines of a list that have changed since a version, and what undo and redo would do. If the version is not one of
+        this list (since the server was restarted or a write failed), return all lines."""
+        async def body() -> Reply:
+            return self._lab.list_of(replica, version if replica.begun <= version <= replica.version else 0)
+        return await self._keeper.ask(index, (replica.index,), body)
+
+    async def operations(self, index: int, replica: Replica, first: int) -> Reply:
+        """Return a part of the operations of a replica in order of arrival, from the place `first` on."""
+        async def body() -> Reply:
+            shared, texts, size = self._keeper.state.shared.places, list[str](), 0
+            after, more, began = replica.size, False, time.perf_counter()
+            for one, place in [*replica.places.items()]:
+                if place < first:
+                    continue
+                if time.perf_counter() > began + LINES_FOR:
+                    await asyncio.sleep(0)
+                    began = time.perf_counter()
+                if size > PIECE_OF_LIST:
+                    after, more = place, True
+                    break
+                written: Fields = {**one.written(), "shared": one in shared}
+                texts.append(to_json(written))
+                size += len(texts[-1])
+            return f'{{"operations":[{",".join(texts)}],"next":{after},"more":{to_json(more)}}}'.encode()
+        return await self._keeper.ask(index, (), body)
+
+    # Demand
+
+    async def admission(self, inlet: int, start: int | None, before: list[tuple[int, int]]) -> Reply:
+        """Return how many cars an inlet admits at each inflow chance, with the plan's drivers and the traffic from inlets upstream, whose
+        indexes and chances are `before`. `start` is the slow-to-start chance of the inlet's zone at step 0, or None."""
+        plan = self._keeper.state.plan
+        cell = plan["inlets"][inlet][0]
+        limit, slowing = plan["zones"][cell // plan["zone"]]
+        beside = sorted((plan["inlets"][one][0], chance_of) for one, chance_of in before if chance_of)
+        entry = find_entry(plan, cell) if beside else 0
+        return await self._curves.find_curve({"limit": limit, "slowing": slowing, "start": start, "entry": entry,
+                                                  "cell": cell if beside else 0, "before": beside}, self._keeper.path)
+
+    # What would be
+
+    async def preview(self, index: int, what: Json, stamps: set[Stamp] | None) -> Reply:
+        """Return the lines that sharing or taking would change, and keep the roads before and after for queries. `what` is "share",
+        "take", or None, which drops the last preview. The reply waits until all that it shows is on the disk."""
+        if what is None:
+            self._previews.put(index, None)
+            return {}
+
+        async def body() -> tuple[Preview, Reply]:
+            state = self._keeper.state
+            own = state.seats[index]
+            if what == "take":
+                return await self._make_preview("take", own, state.unseen(own))
+            return await self._make_preview("share", state.shared, own.shareable() if stamps is None else sendable(
+                own.road, state.shared.road, own.number, stamps))
+        fed = SHARED if what == "share" else index
+        preview, reply = await self._keeper.read_committed(lambda: self._keeper.ask(index, (fed,), body), "shared")
+        self._previews.put(index, preview)
+        return reply
+
+    async def _make_preview(self, what: str, replica: Replica, added: list[Operation]) -> tuple[Preview, Reply]:
+        """Return the roads of a replica without and with some operations, and the lines of its list that they change."""
+        before = replica.road
+        after = before.adding(added)
+        edits = await self._keeper.differences.between(before, after)
+        sides = [await self._timeline(road) for road in (before, after)]
+        lines = await self._lines_of(replica, before, after, {one.stamp for one in added})
+        was, will_be = map(rows_of, sides)
+        return Preview(self._keeper, was, will_be, self._demands(before, after)), {"what": what, "size": len(added), "layers": lines,
+                                                            "touched": first_step(edits)}
+
+    async def _timeline(self, road: Road) -> Edits:
+        return await self._keeper.differences.between(self._keeper.state.empty, road)
+
+    async def _lines_of(self, replica: Replica, before: Road, after: Road,
+                        added: set[Stamp]) -> list[Line]:
+        """Return the lines that look different on the road `after`, or on which an added operation has lost, each with what it shows on
+        the road `before`."""
+        now, then = (Lister(self._keeper.state, replica, road) for road in (before, after))
+        listed = all_lines(before)
+        found: list[Line] = []
+        began = time.perf_counter()
+        for line in sorted(find_altered_lines(before, after)):
+            said, was = then.line(line), now.shown(line)
+            if "gone" not in said and (said["shown"] != was or any(
+                    one["lost"] and one["stamp"] in added for one in said["operations"])):
+                said["was"] = was if line in listed else None
+                found.append(said)
+            if time.perf_counter() > began + LINES_FOR:
+                await asyncio.sleep(0)
+                began = time.perf_counter()
+        return found
+
+    async def figures(self, index: int, own: Replica, of: str, first: int, last: int) -> Reply:
+        """Return the figures of two roads: of the preview if `of` is "preview", else of the shared road and the seat's own."""
+        roads = await self._find_both_roads(index, own, of, first, last)
+        slots = [f"{index} before", f"{index} after"] if of == "preview" else ["shared", f"{index} own"]
+        return {"from": first, "to": last, **await self._figures.compute(index, roads, slots)}
+
+    async def _find_both_roads(self, index: int, own: Replica, of: str, first: int, last: int) -> TwoRoads:
+        """Return two roads and a window, for a program that simulates them."""
+        if first >= last:
+            raise Refused("Range", f"`from` {first} must be below `to` {last}")
+        self._require_reachable(last)
+        state = self._keeper.state
+
+        async def body() -> tuple[dict[str, Sequence[WrittenEdit]], TwoDemands]:
+            before, after = state.shared.road, own.road
+            edits: dict[str, Sequence[WrittenEdit]] = {
+                "before": rows_of(await self._timeline(before)), "after": rows_of(await self._timeline(after))}
+            return edits, self._demands(before, after)
+        if of == "preview":
+            preview = self._previews.get(index)
+            edits, demands = preview.edits, preview.demands
+        else:
+            edits, demands = await self._keeper.ask(index, (0, index), body)
+        plan = state.plan.copy()
+        plan["replicas"] = ["road"]
+        return {"plan": plan, "first": first, "last": last, "program": self._keeper.path, "before": edits["before"],
+                "after": edits["after"], "demands": demands}
+
+    def _demands(self, before: Road, after: Road) -> TwoDemands:
+        """Return the demands that were asked for on two roads."""
+        inlets = len(self._keeper.state.plan["inlets"])
+        return {"before": asked_demands(before, inlets), "after": asked_demands(after, inlets)}
+
+    async def days(self, index: int, own: Replica, of: str | None, first: int, last: int) -> Reply:
+        """Return the figures of two roads over many days, each with its mean and interval. If `of` is None, stop that question."""
+        if of is None:
+            return {"stopped": self._days.stop(index)}
+        plan, listeners, number = self._keeper.state.plan, self._keeper.listeners, self._keeper.settings.days
+        if not isinstance(plan["words"], int):
+            raise Refused("OneDay", "this road has fixed random numbers (no seed), so all days are the same: look at the figures of "
+                          "this day")
+        question = self._days.begin(index, number, lambda other: self._keeper.state.seats[other].name)
+        try:
+            roads = await self._find_both_roads(index, own, of, first, last)
+            said = await question.answer(roads, lambda: listeners.days.notify(index, question.done, question.days))
+        finally:
+            self._days.end(question)
+        return {"from": first, "to": last, **said}
+
+    # What is saved
+
+    async def transcript(self, index: int, replica: Replica, first: int, last: int, piece: int) -> Reply:
+        """Return a piece of a transcript for the viewer. Piece 0 makes the transcript."""
+        if first > last:
+            raise Refused("Range", f"`from` {first} is above `to` {last}")
+        self._require_reachable(last)
+        if piece == 0:
+            self._saved.make_room(index)
+            async with child.wait_for_slot(index):
+                name = self._keeper.state.seats[replica.index].name or replica.at
+                lines = saving.script(self._keeper.state.plan, name, rows_of(await self._timeline(replica.road)), first, last)
+                self._saved.put(index, await saving.transcript(self._keeper.path, self._keeper.state.plan, lines))
+        text, following = self._saved.take(index, piece)
+        return {"lines": text, "next": following}
+
+    async def report(self, index: int, own: Replica, of: str, first: int, last: int, title: str, works: list[str]) -> Reply:
+        """Return the report on two roads: of the preview if `of` is "preview", else of the shared road and the seat's own."""
+        roads = await self._find_both_roads(index, own, of, first, last)
+        day, seat = clock_of(self._keeper.folder), self._keeper.state.seats[index]
+        names = ["before", "after"] if of == "preview" else ["shared", seat.name or seat.at]
+        clock = () if day is None else (day.to_text(0), *(None if one is None else str(one) for one in (day.date, day.zone)))
+        made = await report.make_report(index, {"roads": roads, "title": title, "works": works, "names": names, "clock": clock,
+                                                "days": report.DAYS})
+        return {"from": first, "to": last, **made}
+
+    async def table_of_counts(self, road: AskedRoad, times: Times, first: int, last: int, each: int) -> Reply:
+        """Return a table of what detectors count, as CSV, for each span of `each` steps."""
+        spans = await self._count_spans(road, times, first, last, each)
+        title = f"counts of {self._road_name(road.name)}{self._file_and_date()}, {self.say_time(first)} to {self.say_time(last)}"
+        windows = [Window(start, min(last, start + each)) for start in range(first, last, each)]
+        return {"csv": saving.table_of_counts(self._keeper.state.plan, title, self.say_time, windows, spans)}
+
+    def _road_name(self, at: str) -> str:
+        """Return what a road is called in saved files."""
+        if at == "shared":
+            return "the shared road"
+        name = next((seat.name for seat in self._keeper.state.seats if seat.at == at), "")
+        return f"the road of {saving.escape_formula(name) or at}"
+
+    def _file_and_date(self) -> str:
+        """Return the name of the road's file and the date of its `begin`, as far as they are known."""
+        folder = self._keeper.folder
+        day = clock_of(folder)
+        parts = [saving.escape_formula(name_of(folder)), "" if day is None or day.date is None else str(day.date)]
+        return "".join(f", {one}" for one in parts if one)
+
+    def say_time(self, step: int) -> str:
+        """Return the time of a step: the time of day if the road has one, else the time since step 0."""
+        day = clock_of(self._keeper.folder)
+        return f"{step // 3600}:{step // 60 % 60:02}:{step % 60:02}" if day is None else day.to_text(step)
+
+    async def script(self, index: int, replica: Replica) -> Reply:
+        """Return the commands that make the same road, up to the clock."""
+        to = self._keeper.now()
+        name = "shared" if replica.at == "shared" else self._keeper.state.seats[replica.index].name or replica.at
+        edits = rows_of(await self._timeline(replica.road))
+        return {"lines": saving.commands(self._keeper.state.plan, name, edits, to), "to": to}

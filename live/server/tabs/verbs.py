@@ -1,0 +1,345 @@
+"""Answer the commands of a tab. The table `VERBS` has for each command the roads that `at` may name, and the reader of its fields. A
+reader returns a function that answers the command."""
+from __future__ import annotations
+
+import secrets
+from dataclasses import dataclass
+from typing import Awaitable, Callable, TypeVar
+
+from zegdrut.program.grammar import LAST_HORIZON
+
+from ..journal.keeper import SHARED
+from ..journal.lab import Lab
+from ..journal.state import Replica
+from ..journal.timing import FASTEST
+from ..roads.program import Times
+from ..roads.roads import SIDES, AskedRoad
+from ..sites import peers
+from .asked import LONGEST_NOTE, CommandFields, RawEdit
+from .questions import Questions, Reply
+from .refusals import Refused, not_a_command
+
+MOST_SENTENCES = 200  # sentences about the change in a report
+NO_ROAD = frozenset[str]()  # the command has no `at`
+OWN = frozenset({"own"})
+SHARED_ROAD = frozenset({"shared"})
+KEPT_ROADS = OWN | SHARED_ROAD
+ROADS = KEPT_ROADS | frozenset(SIDES)
+
+
+CHANGES = frozenset({"gesture", "edit", "withdraw", "undo", "again", "site", "send", "take", "leave", "clock", "unbind"})
+
+
+@dataclass
+class Call:
+    """A command that is being answered: the seat that sent it, the road that it is about, and the times that the answer takes."""
+
+    lab: Lab
+    questions: Questions
+    index: int
+    at: str  # own, shared, before or after
+    times: Times
+
+    @property
+    def replica(self) -> Replica:
+        """Return the replica that the command is about: the seat's own or the shared one."""
+        return self.lab.state.replica(SHARED if self.at == "shared" else self.index)
+
+    @property
+    def road(self) -> AskedRoad:
+        return self.questions.road(self.index, self.at)
+
+
+Handler = Callable[[Call], Awaitable[Reply]]
+"""A command whose fields have been read. It answers a call."""
+Reader = Callable[[CommandFields], Handler]
+T = TypeVar("T")
+
+
+@dataclass(frozen=True)
+class Verb:
+    """A command: the roads that `at` may name, and the reader of its fields. If the command is about a road in `lists`, the reply may
+    show changes of other seats, so it waits until these are on the disk."""
+
+    of: frozenset[str]
+    reader: Reader
+    lists: frozenset[str] = frozenset()
+
+
+async def answer(lab: Lab, questions: Questions, index: int, asked: CommandFields, times: Times) -> Reply:
+    """Return the reply to a command of a seat. Raise `Refused` if the command is refused."""
+    if asked.verb not in VERBS:
+        raise not_a_command(f"there is no command `{asked.verb}`")
+    verb = VERBS[asked.verb]
+    call = Call(lab, questions, index, road_name(lab, index, asked, verb), times)
+    with asked:
+        does = verb.reader(asked)
+    if verb.of in (NO_ROAD, OWN) and not verb.lists:
+        return await does(call)
+    may_see = "shared" if call.at in verb.lists else "nothing"
+    return await lab.keeper.read_committed(lambda: does(call), may_see)
+
+
+def road_name(lab: Lab, index: int, asked: CommandFields, verb: Verb) -> str:
+    """Return the road that `at` names."""
+    if verb.of == NO_ROAD:
+        return "own"
+    at, own = asked.require("at"), lab.state.seats[index].at
+    meant = "own" if at == own else at
+    if type(meant) is not str or meant not in verb.of:
+        valid = " or ".join(f'"{own if one == "own" else one}"' for one in sorted(verb.of))
+        raise Refused("NotYourReplica", "a tab can change only its own road, and query only that one, the shared road and the two roads "
+                      f"of its preview: here `at` must be {valid}")
+    return meant
+
+
+# How fields are read
+
+def no_fields(does: Handler) -> Reader:
+    return lambda _asked: does
+
+
+def reader_of_one_part(read: Callable[[CommandFields], T], does: Callable[[Call, T], Awaitable[Reply]]) -> Reader:
+    """Return a reader that passes what `read` returns to `does`, as one argument."""
+    def reader(asked: CommandFields) -> Handler:
+        part = read(asked)
+        return lambda call: does(call, part)
+    return reader
+
+
+def read_steps(asked: CommandFields) -> tuple[int, int]:
+    return asked.whole("from"), asked.whole("to")
+
+
+def read_key_and_note(asked: CommandFields) -> tuple[str, str]:
+    return asked.key(), asked.text("note", LONGEST_NOTE, "")
+
+
+def read_comparison(asked: CommandFields) -> tuple[str, int, int]:
+    """Return which roads a command compares, and the steps."""
+    of = asked.require("of")
+    if type(of) is not str or of not in ("preview", "mine"):
+        raise not_a_command('`of` must be "preview" or "mine"')
+    return (of, *read_steps(asked))
+
+
+def read_site(asked: CommandFields) -> int:
+    return asked.whole("site", 1, 1_023)
+
+
+def require_shared(asked: CommandFields, field: str) -> None:
+    if asked.require(field) != "shared":
+        raise Refused("not a command", f"`{field}` must be \"shared\" here")
+
+
+# Commands without a road
+
+async def seats(call: Call) -> Reply:
+    return {"seats": await call.lab.seating.list_saved_seats(call.index)}
+
+
+def clock(asked: CommandFields) -> Handler:
+    rate = asked.number("rate", FASTEST) if asked.has("rate") else None
+    to = asked.whole("to") if rate is None else None
+    return lambda call: call.lab.timing.set_clock(rate, to)
+
+
+async def list_numbers(call: Call) -> Reply:
+    return {"own": call.lab.state.site, "numbers": [{"site": number, "folder": folder} for number, folder in
+                                                    sorted(peers.bindings(call.lab.state).items())]}
+
+
+async def unbind(call: Call, site: int) -> Reply:
+    await peers.revoke(call.lab, site)
+    return {}
+
+
+def admission(asked: CommandFields) -> Handler:
+    """Read an inlet, the slow-to-start chance there, and the chances of the inlets upstream."""
+    inlet = asked.whole("inlet")
+    start = None if asked.is_null("start") else asked.whole("start", 0, 65_536)
+    upstream = asked.pairs("before")
+
+    async def reply(call: Call) -> Reply:
+        inlets = len(call.lab.state.plan["inlets"])
+        for one, chance in [(inlet, 0), *upstream]:
+            if one >= inlets or chance > 65_536:
+                raise Refused("Range", f"an inlet must be 0 to {inlets - 1}, and its chance 0 to 65536")
+        cell, *cells = (call.lab.state.plan["inlets"][one][0] for one in (inlet, *(one for one, _ in upstream)))
+        if len({*cells}) < len(cells) or max(cells, default=-1) >= cell:
+            raise Refused("Range", "`before` must list inlets upstream of this one, each once")
+        return await call.questions.admission(inlet, start, upstream)
+    return reply
+
+
+# Commands that change, share or take
+
+def gesture(asked: CommandFields) -> Handler:
+    """Read a gesture: raw edits, a new shape, or a new shape or height for a line."""
+    key, note = read_key_and_note(asked)
+    if asked.has("edits"):
+        drawn = None if not asked.has("shape") or asked.is_null("shape") else asked.shape()
+        edits = asked.edits()
+        return lambda call: call.lab.put_edits(call.index, call.times, key=key, note=note, edits=edits, shape=drawn)
+    if not asked.has("layer"):
+        new = asked.shape()
+        demand = asked.demand(new)
+        return lambda call: call.lab.put_shape(call.index, call.times, key=key, note=note, shape=new, demand=demand)
+    line, top = asked.stamp_or_key("layer"), asked.flag("top")
+    if not asked.has("shape"):
+        if not top:
+            raise not_a_command("a gesture with a `layer` needs a `shape` (which may be null) or `top`")
+        return lambda call: call.lab.lift_line(call.index, call.times, key=key, note=note, line=line)
+    shape = None if asked.is_null("shape") else asked.shape()
+    said = None if shape is None else asked.demand(shape)
+    return lambda call: call.lab.change_line(call.index, call.times, key=key, note=note, line=line, shape=shape, top=top, demand=said)
+
+
+def read_edit(asked: CommandFields) -> list[RawEdit]:
+    """Read the commands `edit` and `withdraw` of docs/FORMAT.md as a raw edit."""
+    thing = asked.require("object")
+    edit = [*(thing if isinstance(thing, list) else [thing]), asked.require("step"),
+            asked.require("value") if asked.verb == "edit" else None]
+    edits = CommandFields("gesture", {"edits": [edit]}).edits()
+    if asked.verb == "edit" and edit[-1] is None:
+        raise Refused("not a command", "`value` is null: use `withdraw` to take an edit back")
+    return edits
+
+
+async def put_edits(call: Call, edits: list[RawEdit]) -> Reply:
+    said = await call.lab.put_edits(call.index, call.times, key=secrets.token_hex(8), note="", edits=edits)
+    return {"stamp": said["stamp"]}
+
+
+def undo(asked: CommandFields) -> Handler:
+    key, note = read_key_and_note(asked)
+    stamp = asked.stamp_or_key("stamp")
+    return lambda call: call.lab.undo(call.index, call.times, key=key, note=note, stamp=stamp)
+
+
+def put_again(asked: CommandFields) -> Handler:
+    key, stamp = asked.key(), asked.stamp_or_key("stamp")
+    return lambda call: call.lab.put_again(call.index, call.times, key=key, stamp=stamp)
+
+
+def exclude_site(asked: CommandFields) -> Handler:
+    key, note = read_key_and_note(asked)
+    site, is_out = read_site(asked), asked.flag("out")
+    return lambda call: call.lab.exclude_site(call.index, call.times, key=key, note=note, site=site, out=is_out)
+
+
+def share(asked: CommandFields) -> Handler:
+    require_shared(asked, "name")
+    stamps, title = asked.stamps(), asked.text("title", LONGEST_NOTE, "")
+    return lambda call: call.lab.share(call.index, call.times, stamps=stamps, title=title)
+
+
+async def leave(call: Call) -> Reply:
+    await call.lab.seating.release_seat(call.index)
+    return {}
+
+
+# Queries of roads
+
+def forward(asked: CommandFields) -> Handler:
+    """Forward a command to the program unchanged."""
+    fields = asked.remaining()
+    return lambda call: call.questions.ask_program(call.road, call.times, asked.verb, fields)
+
+
+def diagram(asked: CommandFields) -> Handler:
+    first, last = read_steps(asked)
+    every, cells = asked.whole("every", 1, LAST_HORIZON, 1), asked.stretch()
+    return lambda call: call.questions.diagram(call.road, call.times, first=first, last=last, every=every, cells=cells)
+
+
+def counts(asked: CommandFields) -> Handler:
+    first, last = read_steps(asked)
+    each = asked.whole("each", 1, LAST_HORIZON) if asked.has("each") else None
+    return lambda call: call.questions.counts(call.road, call.times, first=first, last=last, each=each)
+
+
+# Lists and previews
+
+def preview(asked: CommandFields) -> Handler:
+    what = None if asked.is_null("what") else asked.require("what")
+    if what not in (None, "share", "take"):
+        raise not_a_command('`what` must be "share", "take" or null')
+    stamps = asked.stamps()
+    return lambda call: call.questions.preview(call.index, what, stamps)
+
+
+def days(asked: CommandFields) -> Handler:
+    """Read a comparison over many days. If `of` is null, the command stops the one that is running."""
+    if asked.is_null("of"):
+        return lambda call: call.questions.days(call.index, call.replica, None, 0, 0)
+    of, first, last = read_comparison(asked)
+    return lambda call: call.questions.days(call.index, call.replica, of, first, last)
+
+
+# Files
+
+def transcript(asked: CommandFields) -> Handler:
+    first, last = asked.whole("from", default=0), asked.whole("to", 0, LAST_HORIZON)
+    piece = asked.whole("next", default=0)
+    return lambda call: call.questions.transcript(call.index, call.replica, first, last, piece)
+
+
+def report(asked: CommandFields) -> Handler:
+    """Read a comparison, the title of its report, and sentences about the change."""
+    of, first, last = read_comparison(asked)
+    title, works = asked.text("title", LONGEST_NOTE), asked.texts("works", MOST_SENTENCES, LONGEST_NOTE)
+    return lambda call: call.questions.report(call.index, call.replica, of, first, last, title, works)
+
+
+def table_of_counts(asked: CommandFields) -> Handler:
+    if asked.require("what") != "counts":
+        raise not_a_command('`what` must be "counts"')
+    first, last = read_steps(asked)
+    each = asked.whole("each", 1, LAST_HORIZON)
+    return lambda call: call.questions.table_of_counts(call.road, call.times, first, last, each)
+
+
+VERBS: dict[str, Verb] = {
+    # Commands without a road
+    "seats": Verb(NO_ROAD, no_fields(seats)),
+    "clock": Verb(NO_ROAD, clock),
+    "numbers": Verb(NO_ROAD, no_fields(list_numbers)),
+    "unbind": Verb(NO_ROAD, reader_of_one_part(read_site, unbind)),
+    "admission": Verb(NO_ROAD, admission),
+    # Commands that change, share or take
+    "gesture": Verb(OWN, gesture),
+    "edit": Verb(OWN, reader_of_one_part(read_edit, put_edits)),
+    "withdraw": Verb(OWN, reader_of_one_part(read_edit, put_edits)),
+    "undo": Verb(OWN, undo),
+    "again": Verb(OWN, put_again),
+    "site": Verb(OWN, exclude_site),
+    "send": Verb(OWN, share),
+    "take": Verb(OWN, reader_of_one_part(
+        lambda asked: require_shared(asked, "message"), lambda call, _: call.lab.take(call.index, call.times))),
+    "leave": Verb(OWN, no_fields(leave)),
+    # Queries of roads
+    "advance": Verb(ROADS, reader_of_one_part(lambda asked: asked.whole("to"), lambda call, to: call.questions.advance(call.road, to))),
+    "cells": Verb(ROADS, forward),
+    "cars": Verb(ROADS, forward),
+    "count": Verb(ROADS, forward),
+    "scenario": Verb(KEPT_ROADS, forward),
+    "diagram": Verb(ROADS, diagram),
+    "sums": Verb(ROADS, reader_of_one_part(read_steps, lambda call, span: call.questions.sums(call.road, call.times, *span))),
+    "counts": Verb(ROADS, counts),
+    # Lists and previews
+    "layers": Verb(KEPT_ROADS, reader_of_one_part(lambda asked: asked.version("from"), lambda call, version: call.questions.layers(
+        call.index, call.replica, version)), SHARED_ROAD),
+    "operations": Verb(KEPT_ROADS, reader_of_one_part(
+        lambda asked: asked.whole("from", default=0), lambda call, first: call.questions.operations(call.index, call.replica, first)),
+        SHARED_ROAD),
+    "preview": Verb(OWN, preview),  # (`Questions.preview` waits for the disk itself, before it keeps the two roads)
+    "figures": Verb(OWN, reader_of_one_part(
+        read_comparison, lambda call, asked: call.questions.figures(call.index, call.replica, *asked)), OWN),
+    "days": Verb(OWN, days, OWN),
+    # Files
+    "transcript": Verb(KEPT_ROADS, transcript, SHARED_ROAD),
+    "report": Verb(OWN, report, OWN),
+    "script": Verb(KEPT_ROADS, no_fields(lambda call: call.questions.script(call.index, call.replica)), SHARED_ROAD),
+    "csv": Verb(KEPT_ROADS, table_of_counts, SHARED_ROAD),
+}

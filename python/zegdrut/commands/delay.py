@@ -1,0 +1,240 @@
+"""Measure what a change costs, from two scripts of one plan, such as those of recipes/freeway.
+
+    python3 -m zegdrut delay [OPTIONS] BEFORE AFTER    two scripts: the road as it was, and the changed road
+
+    --days N       compare over N days, 2 to 1,000: the seed of the plan and the N - 1 after it
+    --at NAME      the replica; by default the first one of each plan
+    --metres M     the length of a cell: places are then shown in km, not as cells
+    --seconds S    the length of a step (default: 1)
+    --demand       also show demand, admitted cars and lost demand of each inlet (demand.csv); this takes some seconds
+    --minutes N    the period of entry in minutes (default: 1)
+    --out FOLDER   the folder of the tables (default: out/)
+
+If the folder of BEFORE has a file units.json, such as recipes/freeway writes, its "metres" and "seconds" are the defaults.
+
+For one day it prints three tables, and writes them into the folder: the delay by period of entry (delay.csv), the cars that
+entered at each inlet (inlets.csv), and the sums in vehicle hours with a check (sums.csv).
+For many days it prints one table: the mean of each figure before and after, and their difference, with 95 % intervals
+(days.csv). It also writes the figures of each day (by_day.csv) and a picture (differences.png).
+Status 1: a line is refused, the scripts have different plans, or the plan has no seed for many days.
+"""
+from __future__ import annotations
+
+import argparse
+import json
+import shutil
+import subprocess
+import sys
+from pathlib import Path
+from typing import Sequence
+
+from ..figures.days import Comparison, Day, compare_days, run_over_days
+from ..figures.delay import Delay, Entered, Group, compare_delays, to_vehicle_hours
+from ..figures.intervals import Estimate, warn_few_days
+from ..figures.lost import compute_demands, compute_supplies
+from ..figures.trips import Trips, Window, count_admitted_cars
+from ..program.errors import Fault, LabError, describe_error
+from ..program.lab import RoadLab
+from ..program.scripts import open_edited, follow_both, read_script, choose_replica, check_same_road
+from ..reports.outputs import prepare_folder
+from ..roads.demand import Supply
+from ..roads.units import Units, count_things
+
+PICTURE = Path(__file__).with_name("differences.gnuplot")
+
+# The tables
+
+def format_delays(cost: Delay, seconds: float, minutes: float) -> list[str]:
+    """Return the table of delays by period of entry."""
+    lines = ["minute of entry,cars,before s,after s,mean delay s,greatest s,veh·h,only before,only after"]
+    for number, minute in cost.periods.items():
+        through = minute.through
+        times = [format_mean_seconds(through.before, through, seconds), format_mean_seconds(through.after, through, seconds),
+                 format_mean_seconds(through.delay, through, seconds),
+                 "" if through.greatest is None else f"{through.greatest * seconds:.0f}"]
+        lines.append(",".join([f"{number * minutes:g}", str(through.cars), *times,
+                               format_hours(through.delay, seconds), str(minute.lost), str(minute.gained)]))
+    return lines
+
+
+def format_mean_seconds(steps: int, group: Group, seconds: float) -> str:
+    """Return the mean seconds per car; an empty string without a car."""
+    return f"{steps * seconds / group.cars:.1f}" if group.cars else ""
+
+
+def format_inlets(cost: Delay, inlets: Sequence[Sequence[int]], units: Units) -> list[str]:
+    """Return the table of the cars that entered at each inlet."""
+    lines = [f"inlet,{units.place_title()},entered before,entered after,only before,only after"]
+    for inlet, (cell, _) in enumerate(inlets):
+        lines.append(",".join(map(str, (inlet, units.place_value(cell), *cost.inlets.get(inlet, Entered(0, 0, 0, 0))))))
+    return lines
+
+
+def compute_supplies_of_run(lab: RoadLab, at: str, trips: Trips) -> list[Supply]:
+    """Return the demand of each inlet in a run, and the cars that it admitted."""
+    window = Window(0, trips.horizon)
+    return compute_supplies(compute_demands(lab.plan, lab.scenario(at), trips.horizon), count_admitted_cars(trips, window), window)
+
+
+def format_demands(inlets: Sequence[Sequence[int]], before: list[Supply], after: list[Supply], units: Units) -> list[str]:
+    """Return the table of demand and lost demand, in cars. Arrivals are random: even a free road loses up to ±."""
+    lines = [f"inlet,{units.place_title()},demand before,admitted before,lost before,demand after,admitted after,lost after,± by chance"]
+    for inlet, ((cell, _), one, other) in enumerate(zip(inlets, before, after)):
+        numbers = [f"{value:.1f}" for side in (one, other) for value in (side.demand, side.admitted, side.lost)]
+        lines.append(",".join([str(inlet), units.place_value(cell), *numbers, f"{max(one.scatter, other.scatter):.0f}"]))
+    return lines
+
+
+def format_sums(cost: Delay, seconds: float) -> list[str]:
+    """Return the table of sums in vehicle hours."""
+    lines = ["cars,number,mean delay s,greatest s,veh·h"]
+    for name, group in {"through in both runs": cost.through, "of these, delayed": cost.delayed,
+                        "still on the road": cost.inside}.items():
+        greatest = "" if group.greatest is None else f"{group.greatest * seconds:.0f}"
+        lines.append(f"{name},{group.cars},{format_mean_seconds(group.delay, group, seconds)},{greatest},{format_hours(group.delay, seconds)}")
+    for name, group in {"only in the first run": cost.lost, "only in the second run": cost.gained}.items():
+        lines.append(f"{name},{group.cars},,,{format_hours(group.delay, seconds)}")
+    return lines + [f"all cars,,,,{format_hours(cost.total, seconds)}",
+                    f"check: cars in all rows,,,,{format_hours(cost.by_rows, seconds)}"]
+
+
+def format_hours(steps: int, seconds: float) -> str:
+    """Return steps of cars in vehicle hours."""
+    return f"{to_vehicle_hours(steps, seconds):.3f}"
+
+
+def write_table(folder: Path, name: str, lines: list[str]) -> None:
+    """Write a table into the folder."""
+    (folder / name).write_text("".join(line + "\n" for line in lines), encoding="utf-8")
+
+
+def write_and_print(folder: Path, name: str, lines: list[str]) -> None:
+    """Write a table into the folder, and print it."""
+    write_table(folder, name, lines)
+    print("\n".join(lines), end="\n\n")
+
+
+def print_notes(cost: Delay, seconds: float) -> None:
+    """Print what the tables do not show: cars of one run only, and a run that ends too early."""
+    lost = sum(inlet.lost - inlet.gained for inlet in cost.inlets.values())
+    if lost:
+        more = "fewer" if lost > 0 else "more"
+        print(f"{count_things(abs(lost), f'{more} car')} entered in the second run. The delay does not include them; --demand shows whether "
+              "demand was lost.")
+    if cost.inside.delay:
+        print(f"The run ends too early: the cars still on the road are {format_hours(cost.inside.delay, seconds)} veh·h "
+              "late, and their delay may still grow.")
+
+
+# Many days
+
+def format_comparisons(figures: list[Comparison]) -> list[str]:
+    """Return the table of means over all days."""
+    lines = ["mean of a day,before,±,after,±,difference,±,unpaired ±,days of opposite sign"]
+    for one in figures:
+        numbers = [*one.before, *one.after, *one.difference, one.unpaired.half]
+        lines.append(",".join([one.name, *(f"{number:.3f}" for number in numbers), str(one.others)]))
+    return lines
+
+
+def format_days(days: list[Day]) -> list[str]:
+    """Return the table of the figures of each day."""
+    lines = [",".join(["day,seed", *(f"{name} {when}" for name in days[0].before for when in ("before", "after"))])]
+    for number, day in enumerate(days):
+        values = [f"{values[name]:.10g}" for name in day.before for values in (day.before, day.after)]
+        lines.append(",".join([str(number), str(day.seed), *values]))
+    return lines
+
+
+def draw_differences(folder: Path, difference: Estimate, days: int) -> None:
+    """Draw the differences of all days, if gnuplot is installed."""
+    if shutil.which("gnuplot") is None:
+        print("gnuplot is not installed, so there is no differences.png: install the package gnuplot-nox", file=sys.stderr)
+        return
+    given = f"out='{folder}'; mean={difference.mean}; half={difference.half}; days={days}"
+    subprocess.run(["gnuplot", "-e", given, PICTURE], check=True)
+
+
+def compare_over_days(given: argparse.Namespace) -> None:
+    """Compare both scripts over many days."""
+    before, after = map(read_script, given.scripts)
+    prepare_folder(given.out)
+    days = run_over_days(before, after, given.days, given.at, read_units(given), given.scripts)
+    figures = compare_days(days)
+    print("".join(f"{one}\n" for one in warn_few_days(given.days)), end="", file=sys.stderr, flush=True)
+    write_and_print(given.out, "days.csv", format_comparisons(figures))
+    write_table(given.out, "by_day.csv", format_days(days))
+    draw_differences(given.out, figures[0].difference, given.days)
+
+
+def read_units(given: argparse.Namespace) -> Units:
+    """Return the lengths of a cell and of a step: those of the options, or of units.json in the folder of the first script."""
+    path = Path(given.scripts[0]).with_name("units.json")
+    try:
+        found = json.loads(path.read_text(encoding="utf-8")) if path.exists() else {}
+        of_file = Units(*(None if found.get(name) is None else float(found[name]) for name in ("metres", "seconds")))
+    except (ValueError, TypeError, AttributeError):
+        raise Fault(f'{path} must be an object such as {{"metres": 7.5, "seconds": 1}}') from None
+    units = Units(given.metres or of_file.metres, given.seconds or of_file.seconds or 1.0)
+    if not all(0 < length < float("inf") for length in units if length is not None):
+        raise Fault("--metres and --seconds (or those of units.json) must be above 0")
+    return units
+
+
+def read_arguments(words: Sequence[str] | None, example: Sequence[str], out: Path) -> argparse.Namespace:
+    """Read the command line."""
+    parser = argparse.ArgumentParser("zegdrut delay", description=__doc__, formatter_class=argparse.RawDescriptionHelpFormatter)
+    parser.add_argument("--days", type=int, metavar="N")
+    parser.add_argument("--demand", action="store_true", help="show the demand of each inlet, and how much of it was lost (takes some seconds)")
+    parser.add_argument("--at", metavar="NAME")
+    parser.add_argument("--metres", type=float, metavar="M")
+    parser.add_argument("--seconds", type=float, metavar="S")
+    parser.add_argument("--minutes", type=float, default=1.0)
+    parser.add_argument("--out", type=Path, default=out, metavar="FOLDER")
+    parser.add_argument("scripts", nargs="*", metavar="BEFORE AFTER")
+    given = parser.parse_args(words)
+    given.scripts = given.scripts or list(example)
+    if len(given.scripts) != 2:
+        parser.error("name two scripts: BEFORE and AFTER")
+    return given
+
+
+def compare(given: argparse.Namespace) -> None:
+    """Compare both scripts on one day."""
+    units = read_units(given)
+    seconds = units.seconds or 1.0
+    if not seconds / 2 < given.minutes * 60 < float("inf"):
+        raise Fault(f"--minutes {given.minutes:g} must be at least one step ({seconds:g} s)")
+    scripts = list(map(read_script, given.scripts))
+    prepare_folder(given.out)
+    labs = [open_edited(path, script) for path, script in zip(given.scripts, scripts)]
+    try:
+        plan = scripts[0].plan
+        check_same_road(plan, scripts[1].plan)
+        period = max(round(given.minutes * 60 / seconds), 1)
+        before, after = follow_both(labs, given.at)
+        cost = compare_delays(before, after, period)
+        supplies = [compute_supplies_of_run(lab, choose_replica(lab, given.at), trips) for lab, trips in zip(labs, (before, after))] if given.demand else []
+    finally:
+        for lab in labs:
+            lab.close()
+    write_and_print(given.out, "delay.csv", format_delays(cost, seconds, given.minutes))
+    write_and_print(given.out, "inlets.csv", format_inlets(cost, plan["inlets"], units))
+    write_and_print(given.out, "sums.csv", format_sums(cost, seconds))
+    if given.demand:
+        write_and_print(given.out, "demand.csv", format_demands(plan["inlets"], supplies[0], supplies[1], units))
+    print_notes(cost, seconds)
+
+
+def main(words: Sequence[str] | None = None, example: Sequence[str] = (), out: Path = Path("out")) -> int:
+    """Compare two scripts, by default those of `example`. Return the exit status."""
+    given = read_arguments(words, example, out)
+    try:
+        (compare if given.days is None else compare_over_days)(given)
+        sys.stdout.flush()
+        print(f"The tables are in {given.out}", file=sys.stderr)
+    except (LabError, OSError) as fault:
+        print(describe_error(fault), file=sys.stderr)
+        return 1
+    return 0
+

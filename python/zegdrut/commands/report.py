@@ -1,0 +1,301 @@
+"""Write a report of a freeway as one HTML file that prints on A4: diagrams, flow and speed by time, and a table with intervals.
+
+    python3 -m zegdrut report ROAD.json [--against OTHER.json] [--days N] [--counts CSV [--stations TABLE.csv]] [--out FILE.html]
+
+ROAD.json is a freeway as `zegdrut freeway` reads it. It is compared with OTHER.json, a file of the same road. By default it is
+compared with the same road without its sections and stalled cars, if it has any. Each day is a seed: both roads of a day have the same
+drivers. Each run begins some minutes before the window, so that the road is not empty when the window begins: earlier by twice the
+free travel time, unless --warm-up says otherwise. With --counts the report also compares ROAD.json with measured counts. It then
+takes the options of `zegdrut measured`. It writes report-NAME-0630-0930.html, and into the same folder the table, the series and the
+demand as CSV with units.
+"""
+from __future__ import annotations
+
+import argparse
+import csv
+import dataclasses
+import sys
+from dataclasses import dataclass
+from html import escape
+from pathlib import Path
+from typing import Any, Sequence
+
+from ..figures.intervals import warn_few_days
+from ..figures.trips import Window
+from ..measurements.comparison import Model, compare_hours, list_left_out, make_model, simulate_days
+from ..measurements.measured import Measured
+from ..program.bars import Bar
+from ..program.errors import Fault, LabError, describe_error
+from ..program.wire import Record
+from ..reports.outputs import format_window, make_title as make_csv_title, prepare_file
+from ..reports.pictures import INLETS, Chart, Line
+from ..reports.report import PERIOD, Row, Side, SideDay, make_flow_series, make_records, make_speed_series, make_table, run_sides
+from ..reports.report_page import Contents, draw_demands, format_page, make_list_html
+from ..roads.demand import BeyondCapacity, find_rate
+from ..roads.freeway import Figures, Road, measure_chances, make_roads, to_rates, warm_up_minutes, widen_inlets, with_warm_up
+from ..roads.freeway_files import Demand
+from ..roads.road_scripts import make_script
+from ..roads.units import CELLS_A_KM, HOUR, KMH, count_things, format_km, to_steps
+from .freeway import FIGURES, report_progress
+from .measured import (add_count_options, add_demand_argument, check_days, choose_factor, format_hours, format_shares, format_speeds,
+                       make_comparison_charts, make_title, read_data)
+
+DAYS = 5
+MOST_LISTED = 12
+"""The number of values of a demand that the report lists in a sentence."""
+MOST_WARM_UP = 1_440
+
+
+def read_arguments(words: Sequence[str] | None) -> argparse.Namespace:
+    """Read the command line."""
+    parser = argparse.ArgumentParser("zegdrut report", description=__doc__, formatter_class=argparse.RawDescriptionHelpFormatter)
+    parser.add_argument("road", type=Path, metavar="ROAD.json")
+    parser.add_argument("--against", type=Path, metavar="OTHER.json", help="the road before (default: ROAD.json without its works)")
+    parser.add_argument("--days", type=int, default=DAYS, metavar="N", help="number of days, each with a seed (default: %(default)s)")
+    parser.add_argument("--counts", type=Path, metavar="CSV", help="measured counts to compare with")
+    add_count_options(parser)
+    add_demand_argument(parser)
+    parser.add_argument("--warm-up", type=float, metavar="MINUTES", help="minutes of the run before the window (default: twice the free "
+                        "travel time, rounded up to five minutes; 0: the road is empty when the window begins)")
+    parser.add_argument("--title", help="title of the report (default: the names of the files)")
+    parser.add_argument("--out", type=Path, metavar="FILE.html", help="file of the report")
+    return parser.parse_args(words)
+
+
+# The roads
+
+@dataclass(frozen=True)
+class Request:
+    """A request for a report: the road, the road before (if there is one), the names of both, the minutes before the window, the measured
+    counts, and the default title."""
+
+    figures: Figures
+    other: Figures | None
+    names: tuple[str, str]
+    warm: float
+    measured: Measured | None
+    title: str = ""
+
+    @property
+    def window(self) -> Window:
+        """Return the window of all figures."""
+        first = to_steps(self.warm)
+        return Window(first, first + to_steps(self.figures.minutes))
+
+
+def read_request(given: argparse.Namespace) -> Request:
+    """Read and check everything. Fault: a file is invalid, or the two files describe different roads or times."""
+    check_days(given.days, 1)
+    if given.counts is None:
+        used = [f"--{name}" for name in ("stations", "origin", "reverse", "column", "unit") if getattr(given, name) not in (None, False, [])]
+        used += ["--demand"] if given.demand != "counts" else []
+        if used:
+            raise Fault(f"{used[0]} has no effect without counts: add --counts CSV, or leave it out")
+    if given.warm_up is not None and not 0 <= given.warm_up <= MOST_WARM_UP:
+        raise Fault(f"--warm-up must be 0 to {MOST_WARM_UP:,} minutes, not {given.warm_up:g}")
+    figures = FIGURES.override(given.road)
+    other, names = None, ("without works", "with works")
+    if given.against is not None:
+        other = FIGURES.override(given.against)
+        for name in ("length", "minutes", "begin", "date", "seed", "detectors", "entry"):
+            if getattr(figures, name) != getattr(other, name):
+                raise Fault(f"{given.against}: {name} is {getattr(other, name)}, but {getattr(figures, name)} in {given.road}: both "
+                            "files must describe the same road and time")
+        names = (given.against.stem, given.road.stem)
+        if names[0] == names[1]:
+            names = (f"{names[0]}, before", f"{names[1]}, after")
+    elif figures.sections or figures.stalled:
+        other = dataclasses.replace(figures, sections=[], stalled=[])
+    else:
+        names = ("", "simulated")
+    make_roads(figures, other)  # (a road that cannot be made is refused here)
+    measured = None
+    if given.counts is not None:
+        dated, measured = read_data(given)
+        figures = dataclasses.replace(figures, date=dated.date)
+        other = None if other is None else dataclasses.replace(other, date=dated.date)
+    return Request(figures, other, names, warm_up_minutes(figures) if given.warm_up is None else given.warm_up, measured,
+                   given.road.stem if given.against is None else f"{given.road.stem} compared with {given.against.stem}")
+
+
+def make_sides(request: Request) -> tuple[list[Road], list[Side]]:
+    """Return the roads and the sides of the report. They begin before the window."""
+    figures, *others = widen_inlets([request.figures] if request.other is None else [request.figures, request.other])
+    after, before = make_roads(with_warm_up(figures, request.warm), with_warm_up(others[0], request.warm) if others else None)
+    pairs = [(request.names[1], after)] if before is None else [(request.names[0], before), (request.names[1], after)]
+    found = []
+    for name, road in pairs:
+        report_progress(f"measuring the inflow chances for the demand of the road {name}")
+        found.append(Side(name, make_script(road, measure_chances(road), figures.seed), [demand for _, demand in road.inlets]))
+    return [road for _, road in pairs], found
+
+
+def describe_works(figures: Figures) -> list[str]:
+    """Describe sections and stalled cars in km, km/h and clock times."""
+    clock = figures.clock
+    found = []
+    for one in figures.sections:
+        what = [f"limit {one.limit:g} km/h"] if one.limit is not None else []
+        what += [f"slowing {one.slowing:.0%}"] if one.slowing is not None else []
+        what += [f"slow-to-start {one.start:.0%}"] if one.start is not None else []
+        found.append(f"km {one.first:g} to {one.last:g}, {clock.to_text(round(one.begin * 60))} to {clock.to_text(round(one.end * 60))}: "
+                     + (", ".join(what) or "like the rest of the road"))
+    found += [f"km {one.at:g}, {clock.to_text(round(one.begin * 60))} to {clock.to_text(round(one.end * 60))}: a stalled car closes the lane"
+              for one in figures.stalled]
+    return found
+
+
+def name_inlets(figures: Figures) -> list[tuple[str, Demand]]:
+    """Return the name and the demand of each inlet."""
+    return [("main road", figures.main), *((f"on-ramp at km {km:g}", demand) for km, demand in figures.ramps)]
+
+
+def describe_demand(figures: Figures) -> list[str]:
+    """Describe the demand of each inlet in cars per hour and clock times. A long profile is in a chart and a table."""
+    clock = figures.clock
+    found = []
+    for name, demand in name_inlets(figures):
+        if not isinstance(demand, list):
+            found.append(f"{name}: {demand:,.0f} cars/h")
+        elif len(demand) <= MOST_LISTED:
+            steps = ", ".join(f"{cars:,.0f} from {clock.to_text(to_steps(minute))}" for minute, cars in demand)
+            found.append(f"{name}: {steps} cars/h")
+        else:
+            peak, most = max(demand, key=lambda pair: pair[1])
+            found.append(f"{name}: {min(cars for _, cars in demand):,.0f} to {most:,.0f} cars/h, with the peak from {clock.to_text(to_steps(peak))} on")
+    return found
+
+
+def make_demand_chart(roads: Sequence[tuple[str, Figures]]) -> str:
+    """Return the demands of roads over the window as a chart; an empty string if none changes. Roads with the same demand are drawn once."""
+    figures = roads[-1][1]
+    named = [(name if len(roads) > 1 else "", [(inlet, to_rates(demand)) for inlet, demand in name_inlets(one)]) for name, one in roads]
+    return draw_demands(named, figures.clock, Window(0, to_steps(figures.minutes)))
+
+
+def make_demand_records(roads: Sequence[tuple[str, Figures]]) -> list[Record]:
+    """Return the demands of roads in cars per hour as records, at each time at which one changes. They apply until the next record."""
+    columns = [(f"{side}: {name}: cars/h" if len(roads) > 1 else f"{name}: cars/h", to_rates(demand))
+               for side, one in roads for name, demand in name_inlets(one)]
+    dates = sorted({step for _, rates in columns for step, _ in rates})
+    return [{"time": roads[0][1].clock.to_text(date), **{name: round(find_rate(rates, date), 2) for name, rates in columns}} for date in dates]
+
+
+def describe_demands(request: Request) -> list[str]:
+    """Describe the demands of both roads, or only of one if they are the same."""
+    roads = list_demands(request)
+    return [f"{side}: {one}" if len(roads) > 1 else one for side, figures in roads for one in describe_demand(figures)]
+
+
+def list_demands(request: Request) -> list[tuple[str, Figures]]:
+    """Return the roads of a report by name, or only the road after if both have the same demand."""
+    if request.other is None or name_inlets(request.other) == name_inlets(request.figures):
+        return [(request.names[1], request.figures)]
+    return [(request.names[0], request.other), (request.names[1], request.figures)]
+
+
+# The page
+
+def make_lines_html(lines: Sequence[str]) -> str:
+    """Return the lines of a CSV table as HTML."""
+    head, *rows = csv.reader(lines)
+    return ("<table><thead><tr>" + "".join(f"<th>{escape(cell)}</th>" for cell in head) + "</tr></thead><tbody>"
+            + "".join("<tr>" + "".join(f"<td>{escape(cell)}</td>" for cell in row) + "</tr>" for row in rows) + "</tbody></table>")
+
+
+def make_counts_html(given: argparse.Namespace, model: Model) -> str:
+    """Return the part that compares the road with measured counts, as HTML."""
+    measured, days = model.measured, simulate_days(model, given.days)
+    hours = compare_hours(measured, days)
+    notes = make_list_html(measured.notes) if measured.notes else ""
+    whose = "the measured demand" if given.demand == "counts" else f"the demand of {given.road.name}"
+    only = f" Only {given.road.name} is compared with the counts, with its works." if given.against or model.figures.sections else ""
+    shares = "; ".join(format_shares(measured, hours)) + "."
+    return (f"<h2>Comparison with measured counts</h2><p>{escape(make_title(model))}, mean of {count_things(given.days, 'day')} with {escape(whose)}."
+            f"{escape(only)} {escape(shares)}</p>" + notes + make_lines_html(format_hours(model, hours))
+            + make_lines_html(format_speeds(model, days))
+            + f'<div class="pairs">{"".join(f"<div>{one.draw(470, 175)}</div>" for one in make_comparison_charts(model, days))}</div>')
+
+
+def make_page(given: argparse.Namespace, request: Request, roads: Sequence[Road], sides: Sequence[Side], days: Sequence[Sequence[SideDay]],
+              rows: Sequence[Row], model: Model | None) -> str:
+    """Return the report as HTML."""
+    figures, road, window = request.figures, roads[-1], request.window
+    clock = with_warm_up(figures, request.warm).clock
+    title = given.title or request.title
+    drivers = f"limit {road.limit * KMH:g} km/h, slowing {figures.slowing:.0%}" + (
+        f", slow-to-start {figures.start:.0%}" if figures.start is not None else "")
+    closed = [[(window.first + to_steps(one.begin), window.first + to_steps(one.end), one.at, one.at) for one in side.stalled]
+              for side in (request.other, figures) if side is not None]
+    return format_page(Contents(
+        title=title, facts=[f"{road.length / CELLS_A_KM:g} km, one lane, {drivers}", *describe_demands(request)],
+        demand=make_demand_chart(list_demands(request)), works=describe_works(figures),
+        notes=road.notes, clock=clock, window=window, length=road.length, detectors=road.detectors, sides=sides, days=days,
+        rows=rows, seed=figures.seed, closed=closed, more="" if model is None else make_counts_html(given, model)))
+
+
+# The command
+
+def write_table(path: Path, title: str, records: Sequence[Record]) -> None:
+    """Write records as CSV, with the road and the window in the first row."""
+    with open(path, "w", newline="", encoding="utf-8") as file:
+        file.write(f"# {title}\n")
+        writer = csv.DictWriter(file, list(records[0]), lineterminator="\n")
+        writer.writeheader()
+        writer.writerows(records)
+
+
+def make_series_records(request: Request, sides: Sequence[Side], roads: Sequence[Road], days: Sequence[Sequence[SideDay]]) -> list[Record]:
+    """Return flow and speed by time at each detector as records."""
+    found, window = [], request.window
+    for detector, cell in enumerate(roads[0].detectors):
+        each = [(make_flow_series([both[place] for both in days], detector, window),
+                 make_speed_series([both[place] for both in days], detector, window)) for place in range(len(sides))]
+        for index, first in enumerate(range(0, window.steps, PERIOD)):
+            record: Record = {"detector km": format_km(cell), "time": request.figures.clock.to_text(first)}
+            for side, (flow, speed) in zip(sides, each):
+                cars, kmh = flow[index][1], speed[index][1]
+                record.update({f"{side.name}: cars/h": None if cars is None else round(cars, 1),
+                               f"{side.name}: time-mean km/h": None if kmh is None else round(kmh, 1)})
+            found.append(record)
+    return found
+
+
+def write_report(given: argparse.Namespace, out: Path) -> None:
+    """Read, run, and write the report."""
+    request = read_request(given)
+    figures, window, clock = request.figures, request.window, request.figures.clock
+    times = format_window(clock, window.steps)
+    path = given.out or out / f"report-{given.road.stem}-{times}.html"
+    prepare_file(path, "--out FILE.html")
+    print("".join(f"{one}\n" for one in warn_few_days(given.days)), end="", file=sys.stderr, flush=True)
+    model = None
+    if request.measured is not None:
+        report_progress("measuring the inflow chances for the comparison with counts")
+        model = make_model(given.road.stem, figures, request.measured, choose_factor(given))
+    roads, sides = make_sides(request)
+    report_progress(f"simulating {count_things(given.days, 'day')}")
+    bar = Bar("runs", in_log=True)
+    days = run_sides(sides, range(figures.seed, figures.seed + given.days), window, bar.show)
+    bar.end()
+    rows = make_table(sides, days, window)
+    path.write_text(make_page(given, request, roads, sides, days, rows, model), encoding="utf-8")
+    title = f"{make_csv_title(given.road.stem, clock, window.steps)}, mean of {count_things(given.days, 'day')}"
+    write_table(path.with_name(f"figures-{given.road.stem}-{times}.csv"), title, make_records(sides, rows))
+    write_table(path.with_name(f"demand-{given.road.stem}-{times}.csv"), make_csv_title(given.road.stem, clock, window.steps),
+                make_demand_records(list_demands(request)))
+    series = make_series_records(request, sides, roads, days)
+    if series:
+        write_table(path.with_name(f"series-{given.road.stem}-{times}.csv"), title, series)
+    print(path)
+
+
+def main(words: Sequence[str] | None = None, out: Path = Path("out")) -> int:
+    """Write a report. Return the exit status."""
+    given = read_arguments(words)
+    try:
+        write_report(given, out)
+    except (LabError, BeyondCapacity, OSError) as fault:
+        print(describe_error(fault), file=sys.stderr)
+        return 1
+    return 0

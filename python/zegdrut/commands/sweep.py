@@ -1,0 +1,218 @@
+"""Run a model over a grid or a list of points and over seeds, on all processors.
+
+    python3 -m zegdrut sweep FILE.py:FUNCTION --grid NAME=VALUES [--grid ..] [OPTIONS]
+    python3 -m zegdrut sweep FILE.py:FUNCTION --points POINTS.csv [OPTIONS]
+
+    --grid NAME=VALUES   values of a parameter: 1,2,5 or from:to:step (both ends included); once for each parameter
+    --points FILE        a point per line, with the names of the parameters in the first line
+    --seeds SEEDS        1-4 or 1,5,9 (default: 1)
+    --measure FROM:TO    the function returns a Plan: measure flow, density and both mean speeds over these steps
+    --measure FILE:NAME  the function returns a Plan: this function gets its lab, and returns the figures
+    --out FILE           the results, a row for each run as it ends (default: sweep.csv)
+    --means FILE         means over the seeds with their 95 % intervals, a row for each point
+    --jobs N             the number of processes (default: one per processor)
+    --part K/N           run only the K-th of N parts, to share a sweep among machines
+    --take FILE ..       first copy the results of other parts
+    --version TEXT       stands for the source of the model in the column `model`: give another one whenever the model changes
+
+The function is called with the parameters of a point by name. Without --measure it also gets `seed`, and returns figures by name. The
+same command continues after an interrupt: runs that --out already has are not repeated. Failed runs are named at the end and in
+FILE.failed. Status 1: a run failed, or a table has results of another model, measurement or program; 2: the arguments are wrong.
+"""
+from __future__ import annotations
+
+import argparse
+import importlib
+import importlib.util
+import signal
+import sys
+import time
+from pathlib import Path
+from types import FrameType
+from typing import Sequence, cast
+
+from ..program.bars import Bar
+from ..program.errors import Fault, LabError, describe_error
+from ..reports.outputs import prepare_file
+from ..sweeps.marks import OtherMark
+from ..sweeps.results import format_row, replace_file, read_rows, parse_cell, format_cell
+from ..sweeps.sweeps import Flows, Measure, Model, Points, Sweep, make_grid, list_points, sweep
+
+EVERY = 10.0
+"""The seconds between lines of progress, if standard error is not a terminal."""
+NAMED = 10
+"""The number of failed runs that are named on standard error."""
+
+
+def find_function(where: str) -> Model:
+    """Return the function at FILE.py:NAME or MODULE:NAME. Fault: it does not exist."""
+    place, _, name = where.rpartition(":")
+    if not place or not name:
+        raise Fault(f"{where}: write FILE.py:FUNCTION")
+    try:
+        if place.endswith(".py"):
+            path = Path(place).resolve()
+            sys.path.insert(0, str(path.parent))
+            found = importlib.util.spec_from_file_location(path.stem, path)
+            if found is None or found.loader is None or not path.exists():
+                raise Fault(f"there is no file {place}")
+            module = importlib.util.module_from_spec(found)
+            sys.modules[path.stem] = module
+            found.loader.exec_module(module)
+        else:
+            sys.path.insert(0, "")
+            module = importlib.import_module(place)
+    except ImportError as fault:
+        raise Fault(f"{place}: {fault}") from None
+    function = getattr(module, name, None)
+    if not callable(function):
+        raise Fault(f"{place} has no function {name}")
+    return cast(Model, function)
+
+
+def read_values(text: str) -> list[int | float | str | None]:
+    """Read the values of a parameter: 1,2,5 or from:to:step. Fault: the text has a different form."""
+    if ":" not in text:
+        return [parse_cell(one) for one in text.split(",")]
+    ends = [parse_cell(one) for one in text.split(":")]
+    first, last, step = ends if len(ends) == 3 else (None, None, None)
+    if not (isinstance(first, (int, float)) and isinstance(last, (int, float)) and isinstance(step, (int, float)) and step > 0):
+        raise Fault(f"{text}: write from:to:step, with a step above 0")
+    count = int((last - first) / step + 1e-9) + 1
+    found = [first + number * step for number in range(count)]
+    return [one if isinstance(one, int) else float(f"{one:.12g}") for one in found]
+
+
+def read_seeds(text: str) -> list[int]:
+    """Read seeds: 1-4 or 1,5,9. ValueError: the text has a different form."""
+    found: list[int] = []
+    for part in text.split(","):
+        first, _, last = part.partition("-")
+        found += range(int(first), int(last or first) + 1)
+    return found
+
+
+def read_pair(text: str, between: str) -> tuple[int, int]:
+    """Read two whole numbers, such as 3/40. ValueError: the text has a different form."""
+    first, _, last = text.partition(between)
+    return int(first), int(last)
+
+
+def find_measure(text: str) -> Measure:
+    """Return the measurement of a lab: flows over FROM:TO, or the function FILE:NAME."""
+    try:
+        return Flows(*read_pair(text, ":"))
+    except ValueError:
+        return find_function(text)
+
+
+class ProgressDisplay:
+    """Progress and remaining time: a bar on a terminal, otherwise a line now and then."""
+
+    def __init__(self) -> None:
+        self._bar, self._last = Bar("runs"), time.monotonic()
+
+    def show(self, done: int, whole: int, failed: int, left: float) -> None:
+        """Show the number of runs done, of all runs and of failed runs, and the seconds left."""
+        more = (f", {failed} failed" if failed else "") + f", {format_duration(left)} left"
+        self._bar.show(done, whole, more)
+        if not sys.stderr.isatty() and time.monotonic() - self._last >= EVERY:
+            self._last = time.monotonic()
+            print(f"{done} of {whole} runs{more}", file=sys.stderr, flush=True)
+
+    def end(self) -> None:
+        """End the bar."""
+        self._bar.end()
+
+
+def format_duration(seconds: float) -> str:
+    """Return a duration as 1 h 05 min, 3 min 20 s or 7 s."""
+    whole = round(seconds)
+    if whole >= 3_600:
+        return f"{whole // 3_600} h {whole % 3_600 // 60:02} min"
+    return f"{whole // 60} min {whole % 60:02} s" if whole >= 60 else f"{whole} s"
+
+
+def write_means(path: Path, found: Sweep) -> None:
+    """Write the table of means, to standard output if the path is -."""
+    rows = found.means()
+    data = b"".join(map(format_row, [list(rows[0]), *(map(format_cell, row.values()) for row in rows)])) if rows else b""
+    if str(path) == "-":
+        sys.stdout.write(data.decode())
+    else:
+        replace_file(path, data)
+
+
+def read_arguments(words: Sequence[str] | None) -> argparse.Namespace:
+    """Read the command line."""
+    parser = argparse.ArgumentParser("zegdrut sweep", description=__doc__, formatter_class=argparse.RawDescriptionHelpFormatter)
+    parser.add_argument("model", metavar="FILE.py:FUNCTION")
+    parser.add_argument("--grid", action="append", default=[], metavar="NAME=VALUES")
+    parser.add_argument("--points", metavar="FILE")
+    parser.add_argument("--seeds", default="1")
+    parser.add_argument("--measure", metavar="FROM:TO")
+    parser.add_argument("--out", type=Path, default=Path("sweep.csv"), metavar="FILE")
+    parser.add_argument("--means", type=Path, metavar="FILE")
+    parser.add_argument("--jobs", type=int, metavar="N")
+    parser.add_argument("--part", default="1/1", metavar="K/N")
+    parser.add_argument("--take", nargs="+", default=[], metavar="FILE")
+    parser.add_argument("--version", metavar="TEXT")
+    return parser.parse_args(words)
+
+
+def read_points(given: argparse.Namespace) -> Points:
+    """Return the points of --grid and --points. Fault: they are missing or malformed."""
+    wrong = next((one for one in given.grid if "=" not in one), None)
+    if wrong:
+        raise Fault(f"--grid {wrong}: write NAME=VALUES")
+    parameters = {name: read_values(values) for name, _, values in (one.partition("=") for one in given.grid)}
+    listed = read_rows(given.points) if given.points else [{}]
+    points = [{**point, **other} for point in listed for other in make_grid(parameters)]
+    if points == [{}]:
+        raise Fault("name the points: --grid NAME=VALUES or --points FILE")
+    return list_points(points)
+
+
+def raise_interrupt(_: int, __: FrameType | None) -> None:
+    """Raise KeyboardInterrupt, for SIGTERM."""
+    raise KeyboardInterrupt
+
+
+def run_sweep(given: argparse.Namespace) -> int:
+    """Run the sweep. Return the exit status."""
+    try:
+        seeds, part = read_seeds(given.seeds), read_pair(given.part, "/")
+    except ValueError:
+        raise Fault("write --seeds as 1-4 or 1,5,9, and --part as K/N") from None
+    prepare_file(given.out)
+    if given.means and str(given.means) != "-":
+        prepare_file(given.means, "--means FILE")
+    shown = ProgressDisplay()
+    signal.signal(signal.SIGTERM, raise_interrupt)
+    try:
+        found = sweep(find_function(given.model), read_points(given), seeds, out=given.out, jobs=given.jobs, part=part, take=given.take,
+                      version=given.version, measure=find_measure(given.measure) if given.measure else None, progress=shown.show)
+    except KeyboardInterrupt:
+        shown.end()
+        print(f"the finished runs are in {given.out}: the same command continues from there", file=sys.stderr)
+        raise
+    finally:
+        shown.end()
+    if given.means:
+        write_means(given.means, found)
+    for failure in found.failures[:NAMED]:
+        print(f"failed: {failure}", file=sys.stderr)
+    if len(found.failures) > NAMED:
+        print(f"and {len(found.failures) - NAMED} more: see {given.out}.failed", file=sys.stderr)
+    print(f"{len(found.rows)} runs are in {given.out}" + f", and {len(found.failures)} failed" * bool(found.failures), file=sys.stderr)
+    return 1 if found.failures else 0
+
+
+def main(words: Sequence[str] | None = None) -> int:
+    """Run the command. Return the exit status."""
+    given = read_arguments(words)
+    try:
+        return run_sweep(given)
+    except (LabError, OSError) as fault:
+        print(describe_error(fault), file=sys.stderr)
+        return 1 if isinstance(fault, OtherMark) else 2

@@ -1,0 +1,1 @@
+"""Read measured counts, compare a road with them, and fit its drivers to them."""

@@ -1,0 +1,342 @@
+"""Fit the slowing chance, the slow-to-start chance and a demand factor to measured counts and speeds.
+
+    found = calibrate("I-10", figures, measured, Bounds(), Search())
+    found.best.slowing, found.best.start, found.best.factor
+
+The total number of cars is proportional to the demand factor. After each round the factor is corrected by the ratio of measured to
+simulated totals of the best points. The two chances are found by the cross-entropy method (Rubinstein, Methodol. Comput. Appl. Probab. 1
+(1999) 127). Each round tries a set of points. The points with the smallest errors (the elite) give a mean and a spread, and the next
+round is drawn from a normal distribution with these. The first round fills the bounds evenly (Halton's sequence). Each round has new
+seeds, so that no point wins by a lucky seed. The result is the minimum of a quadratic, fitted by least squares to all points of the later
+rounds. If it has no minimum within the bounds, the result is the mean of the elites of the last two rounds.
+
+The error of a point is a sum of squares. Each is the deviation of a quantity that one of the three parameters determines, in units
+of its uncertainty:
+
+- totals, for the demand factor: the cars of each station in the whole window, to 0.5 %, averaged over the stations;
+- free speed, for the slowing chance: the mean difference of speeds if both are free (at most 10 km/h below the station's highest
+  measured speed), to 0.3 km/h;
+- delay, for slow-to-start: cars times seconds per km above the free travel time, summed over stations and intervals. It grows fast with
+  slow-to-start and varies widely from day to day, so its logarithm is compared, to 0.5;
+- half the mean of (simulated - measured)^2 over stations and intervals: for flows divided by the measured cars, for speeds divided
+  by (1 + 0.5 d)^2 in km/h, where d is how far the lower of the two is below the free speed.
+
+Simulated values are means over the days of a point. The flows of a day are multiplied by demand / admitted cars of that day (at most
+5 %), so that random arrivals are not mistaken for a demand factor.
+"""
+from __future__ import annotations
+
+import dataclasses
+import math
+import random
+from concurrent.futures import ProcessPoolExecutor, as_completed
+from dataclasses import dataclass
+from typing import Callable, NamedTuple, Sequence
+
+from ..program.errors import Fault, LabError
+from ..roads import demand
+from ..roads.demand import QUICK, BeyondCapacity, count_demand, thread_count
+from ..roads.freeway import ENTRY, Figures
+from ..roads.units import HOUR, KMH
+from .comparison import Day, Model, make_model, simulate_day, with_measured_demand, with_stations
+from .measured import Measured
+
+NAMES = ("slowing", "start", "factor")
+
+
+class Point(NamedTuple):
+    """A slowing chance and a slow-to-start chance from 0 to 1, and a factor for all demands."""
+
+    slowing: float
+    start: float
+    factor: float
+
+
+class Bounds(NamedTuple):
+    """The smallest and the largest value of each parameter."""
+
+    slowing: tuple[float, float] = (0.0, 0.4)
+    start: tuple[float, float] = (0.0, 0.7)
+    factor: tuple[float, float] = (0.9, 1.1)
+
+    @classmethod
+    def read(cls, given: object, where: str) -> Bounds:
+        """Read bounds from a JSON object such as {"slowing": [0, 0.4]}. Fault: one of them is invalid."""
+        if not isinstance(given, dict) or set(given) - set(NAMES):
+            raise Fault(f"{where}: bounds must be an object of {', '.join(NAMES)}, each [smallest, largest]")
+        for name, pair in given.items():
+            numbers = isinstance(pair, list) and len(pair) == 2 and all(isinstance(one, (int, float)) for one in pair)
+            if not numbers or not 0 <= pair[0] <= pair[1] or name != "factor" and pair[1] > 1:
+                raise Fault(f"{where}: bounds: {name}: {pair} must be [smallest, largest]" + " from 0 to 1" * (name != "factor"))
+        return cls(**{name: (float(low), float(high)) for name, (low, high) in given.items()})
+
+
+@dataclass(frozen=True)
+class Search:
+    """The size of a search: points per round and days per point, in the first round and in each later round, the number of rounds, and
+    the size of the elite."""
+
+    first_points: int = 32
+    first_days: int = 2
+    points: int = 24
+    days: int = 4
+    rounds: int = 5
+    elite: int = 6
+    seed: int = 1
+
+    @property
+    def total(self) -> int:
+        """Return the number of points that are tried."""
+        return self.first_points + (self.rounds - 1) * self.points
+
+
+class Trial(NamedTuple):
+    """A point, its error, its round, and the ratio of measured to simulated cars in total.
+
+    The error is infinite if the demand exceeds the capacity."""
+
+    point: Point
+    error: float
+    round: int
+    ratio: float = 1.0
+
+
+@dataclass(frozen=True)
+class Calibration:
+    """The result of a calibration: the best point, the spread of the elite around it, and all trials."""
+
+    best: Point
+    spread: Point
+    tried: list[Trial]
+    is_fitted: bool = True
+    """Whether the best point is the minimum of a quadratic. Otherwise it is the mean of the elites, which is less accurate."""
+
+    def best_ten(self) -> list[Trial]:
+        """Return the ten trials with the smallest errors after the first round."""
+        return sorted((one for one in self.tried if one.round), key=lambda one: one.error)[:10]
+
+
+# The error
+
+def apply_point(figures: Figures, point: Point) -> Figures:
+    """Return the figures of a road with the drivers of a point. The entry of the road is the same for all points."""
+    return dataclasses.replace(figures, slowing=point.slowing, start=point.start, entry=ENTRY if figures.entry is None else figures.entry)
+
+
+def make_calibrated(figures: Figures, measured: Measured, point: Point) -> Figures:
+    """Return the figures of the road of a point: its drivers, and the measured demand times its factor."""
+    found, _ = with_measured_demand(with_stations(apply_point(figures, point), measured), measured, point.factor)
+    return found
+
+
+TOTAL_UNCERTAINTY, SPEED_UNCERTAINTY, DELAY_UNCERTAINTY = 0.005, 0.3, 0.5
+"""The uncertainties of totals (a share), free speeds (km/h) and delays (a logarithm)."""
+FREE = 10.0
+"""Traffic is free down to this many km/h below the highest measured speed of a station."""
+LEAST_DELAY = 1_000.0
+"""Seconds per km, summed over all cars, that do not count as a delay."""
+
+
+def compute_error(model: Model, days: Sequence[Day], scales: Sequence[float]) -> tuple[float, float]:
+    """Return the error of a model's days, and the ratio of measured to simulated cars. `scales` are demand / admitted cars of each day."""
+    flows, speeds, totals, free_speeds = list[float](), list[float](), list[float](), list[float]()
+    delays, ratios = [0.0, 0.0], list[float]()
+    for index, series in enumerate(model.measured.main[1:]):
+        free = max((speed for speed in series.speeds if speed is not None), default=0.0)
+        total = [0.0, 0.0]
+        for place, cars in enumerate(series.cars):
+            passed = [day[index][place] for day in days]
+            mean_cars = math.fsum(one.cars * scale for one, scale in zip(passed, scales)) / len(days)
+            if cars is not None:
+                flows.append((mean_cars - cars) ** 2 / max(cars, 1.0))
+                total = [total[0] + mean_cars, total[1] + cars]
+            measured, known = series.speeds[place], [one for one in passed if one.cars]
+            if measured is None or cars is None or not known:
+                continue
+            mean = math.fsum(one.speeds / one.cars * KMH for one in known) / len(known)
+            speeds.append((mean - measured) ** 2 / (1 + 0.5 * max(free - measured, free - mean, 0.0)) ** 2)
+            if min(mean, measured) > free - FREE:
+                free_speeds.append(mean - measured)
+            delays[0] += math.fsum(one.cars * excess_seconds_per_km(one.speeds / one.cars * KMH, free) for one in known) / len(days)
+            delays[1] += cars * excess_seconds_per_km(measured, free)
+        if total[1]:
+            totals.append(((total[0] / total[1] - 1) / TOTAL_UNCERTAINTY) ** 2)
+            ratios.append(total[1] / max(total[0], 1.0))
+    delay = math.log((delays[0] + LEAST_DELAY) / (delays[1] + LEAST_DELAY)) / DELAY_UNCERTAINTY
+    error = (mean_or_zero(totals) + (mean_or_zero(free_speeds) / SPEED_UNCERTAINTY) ** 2 + delay ** 2
+             + (mean_or_zero(flows) + mean_or_zero(speeds)) / 2)
+    return error, mean_or_zero(ratios) or 1.0
+
+
+def is_congested(measured: Measured) -> bool:
+    """Return whether a compared station has an interval whose speed is not free. Only congestion determines the slow-to-start chance."""
+    for series in measured.main[1:]:
+        speeds = [speed for speed in series.speeds if speed is not None]
+        if speeds and min(speeds) < max(speeds) - FREE:
+            return True
+    return False
+
+
+def excess_seconds_per_km(kmh: float, free: float) -> float:
+    """Return the additional seconds per km at a speed, compared with 10 km/h below the free speed."""
+    return max(HOUR / max(kmh, 1.0) - HOUR / max(free - FREE, 1.0), 0.0)
+
+
+def mean_or_zero(values: Sequence[float]) -> float:
+    """Return the mean of values, or 0 without values."""
+    return math.fsum(values) / len(values) if values else 0.0
+
+
+def evaluate(name: str, figures: Figures, measured: Measured, point: Point, seeds: Sequence[int]) -> tuple[float, float]:
+    """Simulate a point on the days of some seeds. Return its error and the ratio of measured to simulated cars.
+
+    The error is infinite if a demand exceeds the capacity of its inlet."""
+    try:
+        model = make_model(name, apply_point(figures, point), measured, point.factor, QUICK)
+    except BeyondCapacity:
+        return math.inf, 1.0
+    asked = math.fsum(count_demand(rates, 0, model.road.steps) for _, rates in model.road.inlets)
+    days, scales = [], []
+    for seed in seeds:
+        day, _, admitted = simulate_day(model, seed, with_entries=True)
+        days.append(day)
+        scales.append(min(max(asked / max(admitted, 1), 0.95), 1.05))
+    return compute_error(model, days, scales)
+
+
+# The search
+
+def halton_number(index: int, base: int) -> float:
+    """Return a number of Halton's sequence, from 0 to 1."""
+    found, part = 0.0, 1.0
+    while index:
+        part /= base
+        found += part * (index % base)
+        index //= base
+    return found
+
+
+def draw_first_points(bounds: Bounds, factor: float, number: int) -> list[Point]:
+    """Return points that fill the bounds of both chances evenly."""
+    def value(index: int, base: int, low: float, high: float) -> float:
+        return low + (high - low) * halton_number(index, base)
+    return [Point(value(index, 2, *bounds.slowing), value(index, 3, *bounds.start), factor) for index in range(1, number + 1)]
+
+
+def draw_next_points(bounds: Bounds, factor: float, elite: Sequence[Trial], number: int, rng: random.Random) -> list[Point]:
+    """Draw points from a normal distribution with the mean and 1.2 times the spread of the elite, within the bounds."""
+    means, spreads = find_centre([one.point for one in elite])
+    points = []
+    for _ in range(number):
+        values = []
+        for (low, high), mean, spread in zip(bounds[:2], means, spreads):
+            value = rng.gauss(mean, 1.2 * spread + 0.005 * (high - low))
+            values.append(min(max(value, low), high))
+        points.append(Point(values[0], values[1], factor))
+    return points
+
+
+def correct_factor(bounds: Bounds, elite: Sequence[Trial]) -> float:
+    """Return the demand factor for which the totals of the elite equal the measured totals."""
+    factor = math.fsum(one.point.factor * one.ratio for one in elite) / len(elite)
+    return min(max(factor, bounds.factor[0]), bounds.factor[1])
+
+
+def find_centre(points: Sequence[Point]) -> tuple[Point, Point]:
+    """Return the mean of points and their spread (the standard deviation) in each direction."""
+    means = [math.fsum(values) / len(points) for values in zip(*points)]
+    spreads = [math.sqrt(math.fsum((value - mean) ** 2 for value in values) / max(len(points) - 1, 1))
+               for values, mean in zip(zip(*points), means)]
+    return Point(*means), Point(*spreads)
+
+
+def fit_minimum(bounds: Bounds, tried: Sequence[Trial]) -> tuple[float, float] | None:
+    """Return both chances at the minimum of a quadratic that is fitted to the points of the later rounds by least squares.
+
+    Points with large errors get less weight. Return None if the quadratic has no minimum within the bounds."""
+    used = [one for one in tried if one.round and math.isfinite(one.error)]
+    if len(used) < 20:
+        return None
+    mean_point, spread_point = find_centre([one.point for one in used])
+    spreads = [max(one, 1e-6) for one in spread_point]
+    smallest = min(one.error for one in used)
+    rows, weights = [], []
+    for one in used:
+        x, y = ((value - mean) / spread for value, mean, spread in zip(one.point[:2], mean_point, spreads))
+        rows.append([1.0, x, y, x * x, y * y, x * y])
+        weights.append((smallest / one.error) ** 2 if one.error > 0 else 1.0)
+    normal = [[math.fsum(weight * row[i] * row[j] for row, weight in zip(rows, weights)) for j in range(6)] for i in range(6)]
+    rhs = [math.fsum(weight * row[i] * one.error for row, one, weight in zip(rows, used, weights)) for i in range(6)]
+    fitted = solve(normal, rhs)
+    if fitted is None:
+        return None
+    _, first, second, xx, yy, xy = fitted
+    if not (xx > 0 and 4 * xx * yy > xy * xy):
+        return None
+    place = solve([[2 * xx, xy], [xy, 2 * yy]], [-first, -second])
+    if place is None or max(abs(one) for one in place) > 2:  # no further than two spreads from the mean
+        return None
+    x, y = (mean + spread * value for value, mean, spread in zip(place, mean_point, spreads))
+    return (x, y) if all(low <= value <= high for value, (low, high) in zip((x, y), bounds)) else None
+
+
+def solve(matrix: Sequence[Sequence[float]], rhs: Sequence[float]) -> list[float] | None:
+    """Solve linear equations by elimination with pivots. Return None if there is no solution."""
+    rows = [[*row, value] for row, value in zip(matrix, rhs)]
+    size = len(rows)
+    for place in range(size):
+        pivot = max(range(place, size), key=lambda row: abs(rows[row][place]))
+        if abs(rows[pivot][place]) < 1e-12:
+            return None
+        rows[place], rows[pivot] = rows[pivot], rows[place]
+        for row in range(size):
+            if row != place:
+                factor = rows[row][place] / rows[place][place]
+                rows[row] = [one - factor * other for one, other in zip(rows[row], rows[place])]
+    return [row[-1] / row[place] for place, row in enumerate(rows)]
+
+
+def use_one_thread() -> None:
+    """Let this process, which is one of many, simulate on one thread only."""
+    demand.MOST_THREADS = 1
+
+
+def calibrate(name: str, figures: Figures, measured: Measured, bounds: Bounds = Bounds(), search: Search = Search(),
+              progress: Callable[[int, int, Trial], None] = lambda done, total, best: None) -> Calibration:
+    """Fit the three parameters to the counts and speeds of a road, on all processors.
+
+    progress: gets the number of points tried, the number of all points, and the best trial of the round.
+
+    Fault: no point within the bounds admits the demand, or the road cannot be made."""
+    rng = random.Random(search.seed)
+    tried: list[Trial] = []
+    elites: list[list[Trial]] = []
+    with ProcessPoolExecutor(thread_count(), initializer=use_one_thread) as pool:
+        try:
+            factor = min(max(1.0, bounds.factor[0]), bounds.factor[1])
+            for number in range(search.rounds):
+                points = (draw_next_points(bounds, factor, elites[-1], search.points, rng) if number
+                          else draw_first_points(bounds, factor, search.first_points))
+                days = search.days if number else search.first_days
+                seeds = range(10_000 * (number + 1), 10_000 * (number + 1) + days)
+                running = {pool.submit(evaluate, name, figures, measured, point, seeds): point for point in points}
+                found: list[Trial] = []
+                for ended in as_completed(running):
+                    error, ratio = ended.result()
+                    found.append(Trial(running[ended], error, number, ratio))
+                    progress(len(tried) + len(found), search.total, min(found, key=lambda one: one.error))
+                tried += found
+                elite = sorted((one for one in found if math.isfinite(one.error)), key=lambda one: one.error)[:search.elite]
+                if not elite:
+                    raise Fault("no point within the bounds admits the demand: it exceeds the capacity of an inlet. Widen the bounds of slowing or factor")
+                elites.append(elite)
+                factor = correct_factor(bounds, elite)
+        except (LabError, KeyboardInterrupt):
+            pool.shutdown(cancel_futures=True)
+            raise
+    last = [one for elite in elites[-2:] for one in elite]
+    mean, spread = find_centre([one.point for one in last])
+    fitted = fit_minimum(bounds, tried)
+    slowing, start = fitted or mean[:2]
+    _, of_ratios = find_centre([Point(0, 0, one.point.factor * one.ratio) for one in last])
+    return Calibration(Point(slowing, start, correct_factor(bounds, last)), spread._replace(factor=of_ratios.factor), tried, fitted is not None)

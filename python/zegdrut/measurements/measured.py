@@ -1,0 +1,297 @@
+"""Convert measured counts to series of intervals along a road of one lane, per lane and in the window of a run.
+
+The model has one lane. Counts of a main-line station are divided by its lanes. Counts of an on-ramp are divided by the lanes of the next
+main-line station downstream, so that the flow per lane after the ramp is right. The model has no off-ramps: if the flow falls downstream
+by more than counting error, only the stations upstream are compared.
+"""
+from __future__ import annotations
+
+import datetime
+import math
+from collections import Counter
+from dataclasses import dataclass, field, replace
+from typing import Iterable, NamedTuple
+
+from ..program.errors import Fault
+from ..roads.clock import Clock
+from ..roads.demand import Rates
+from ..roads.units import HOUR, count_things
+from .stations import MOST_LISTED, Counts, Row, Station, note_lines
+
+SUSPICIOUS = 10
+"""A zero between two intervals with at least this many cars per lane is a fault of the detector."""
+MOST_FLOW = 3_000.0
+"""The highest plausible flow in cars per hour and lane. Higher flows count as missing."""
+COUNTING_ERROR = 0.05
+"""The share of the flow that counting errors may lose between two stations."""
+
+
+@dataclass(frozen=True)
+class Series:
+    """The cars per lane and the mean speeds in km/h of a station, for each interval. None is a missing value."""
+
+    station: Station
+    cars: list[float | None]
+    speeds: list[float | None]
+
+    @property
+    def total(self) -> float:
+        """Return the cars per lane in all intervals that are not missing."""
+        return math.fsum(one for one in self.cars if one is not None)
+
+
+@dataclass(frozen=True)
+class Measured:
+    """The series of the main line, in the order of the road, and of the on-ramps. Intervals last `interval` seconds. The first one begins
+    with the clock."""
+
+    clock: Clock
+    interval: int
+    main: list[Series]
+    ramps: list[Series]
+    notes: list[str] = field(default_factory=list)
+    cut: str = ""
+    """Why stations downstream of the last one are not compared, if there are any."""
+
+    @property
+    def intervals(self) -> int:
+        """Return the number of intervals."""
+        return len(self.main[0].cars)
+
+    def demand(self) -> Rates:
+        """Return the main demand per lane from the first station, as (step, cars per hour). Missing intervals are interpolated."""
+        return make_rates(self.main[0], self.interval)
+
+    def ramp_demands(self) -> list[tuple[float, Rates]]:
+        """Return the km and the demand per main-line lane of each on-ramp station."""
+        return [(one.station.km, make_rates(one, self.interval)) for one in self.ramps]
+
+
+def make_rates(series: Series, interval: int) -> Rates:
+    """Convert a series to a demand over time in steps and cars per hour. Fault: all intervals are missing."""
+    known = [(place, cars) for place, cars in enumerate(series.cars) if cars is not None]
+    if not known:
+        raise Fault(f"station {series.station.name} has no count in the window, so its demand is unknown: check its times and begin of the road")
+    found: Rates = []
+    for place in range(len(series.cars)):
+        before = max((one for one in known if one[0] <= place), default=known[0])
+        after = min((one for one in known if one[0] >= place), default=known[-1])
+        part = (place - before[0]) / (after[0] - before[0]) if after[0] != before[0] else 0.0
+        found.append((place * interval, (before[1] + part * (after[1] - before[1])) * HOUR / interval))
+    return found
+
+
+class PlacedRow(NamedTuple):
+    """A row, and the step at which its interval begins."""
+
+    row: Row
+    step: int
+
+
+def find_interval(counts: Counts, clock: Clock) -> int:
+    """Return the seconds between the rows of a station. Fault: they are not whole minutes that divide an hour."""
+    gaps: Counter[int] = Counter()
+    for name in counts.stations:
+        steps = sorted(find_step(clock, row) for row in counts.rows if row.station == name)
+        gaps.update(after - before for before, after in zip(steps, steps[1:]) if after > before)
+    if not gaps:
+        raise Fault(f"{counts.path}: no station has two intervals: the length of an interval is unknown")
+    interval = gaps.most_common(1)[0][0]
+    if interval % 60 or HOUR % interval:
+        raise Fault(f"{counts.path}: intervals of {interval / 60:g} minutes do not divide an hour: use 1, 5, 10, 15, 20, 30 or 60 minutes")
+    return interval
+
+
+def find_step(clock: Clock, row: Row) -> int:
+    """Return the step of the time of a row. It is negative before the beginning of the run."""
+    return clock.find_step(find_moment(clock, row))
+
+
+def check_one_day(counts: Counts, clock: Clock) -> None:
+    """Check the dates. Fault: the rows have several dates and the clock has none."""
+    dates = sorted({row.time.date() for row in counts.rows if isinstance(row.time, datetime.datetime)})
+    if clock.date is None and len(dates) > 1:
+        raise Fault(f'{counts.path} has {len(dates)} dates, {dates[0]} to {dates[-1]}: choose one in the file of the road: "date": "{dates[0]}"')
+
+
+def put_on_road(counts: Counts, clock: Clock, seconds: int, origin: float | None = None, is_reversed: bool = False) -> Measured:
+    """Place counts on a road whose run begins when the clock does, and lasts `seconds`.
+
+    origin: the km of the station table that is km 0 of the road. The default is 0, or the first main-line station if the table has miles
+    or is reversed. is_reversed: km decrease in the direction of travel.
+
+    Fault: the counts do not fit the run, or nothing is left to compare."""
+    check_one_day(counts, clock)
+    interval = find_interval(counts, clock)
+    if seconds < interval:
+        raise Fault(f"minutes: the run of {seconds / 60:g} minutes is shorter than an interval of the counts, {interval / 60:g} minutes")
+    if seconds % interval:
+        raise Fault(f"the run of {seconds / 60:g} minutes does not consist of whole intervals of {interval / 60:g} minutes: change `minutes`")
+    sign = -1 if is_reversed else 1
+    main = sorted((one for one in counts.stations.values() if not one.is_ramp), key=lambda one: sign * one.km)
+    if not main:
+        raise Fault(f"{counts.path}: no station is on the main line: mark at least two with type ML")
+    start = origin if origin is not None else main[0].km if main[0].is_mile or is_reversed else 0.0
+    notes: list[str] = []
+    placed: dict[str, list[PlacedRow]] = {name: [] for name in counts.stations}
+    for placed_row in place_rows(counts, clock, notes):
+        placed[placed_row.row.station].append(placed_row)
+    check_clock_changes(counts, clock, seconds, notes)
+    check_window(counts, clock, seconds, placed)
+    found: list[Series] = []
+    for station in counts.stations.values():
+        here = station._replace(km=round(sign * (station.km - start), 4))
+        lanes = station.lanes
+        if station.is_ramp:
+            lanes = find_lanes_downstream(station, main, sign)
+        found.append(make_series(counts, here, placed[station.name], lanes, interval, seconds, clock, notes))
+    lines = sorted((one for one in found if not one.station.is_ramp), key=lambda one: one.station.km)
+    ramps = sorted((one for one in found if one.station.is_ramp), key=lambda one: one.station.km)
+    lanes_differ = sorted({one.station.lanes for one in lines})
+    if len(lanes_differ) > 1:
+        notes.append(f"the stations have {' and '.join(map(str, lanes_differ))} lanes: the model has one lane, so it cannot show how the flow "
+                     "per lane changes with the number of lanes")
+    upstream, cut = cut_at_exit(lines, ramps)
+    notes += [cut] if cut else []
+    joining = [one for one in ramps if one.station.km < upstream[-1].station.km]
+    for one in (upstream[0], *joining):
+        note_interpolated(one, clock, interval, notes)
+    return Measured(clock, interval, upstream, joining, [*counts.notes, *notes], cut)
+
+
+def check_window(counts: Counts, clock: Clock, seconds: int, placed: dict[str, list[PlacedRow]]) -> None:
+    """Check that a row is in the window. Fault: none is. The message has the times of the window and of the rows."""
+    steps = sorted(one.step for rows in placed.values() for one in rows)
+    if steps and not any(0 <= step < seconds for step in steps):
+        first, last = (clock.to_date_text(step) for step in (steps[0], steps[-1]))
+        raise Fault(f"{counts.path}: no row is in the window of the road, {clock.to_date_text(0)} to {clock.to_date_text(seconds)}: the rows are "
+                    f"from {first} to {last}. Change date, begin or minutes of the road")
+
+
+def note_interpolated(series: Series, clock: Clock, interval: int, notes: list[str]) -> None:
+    """Add a note if a station that gives a demand has missing intervals, whose demand `make_rates` interpolates."""
+    known = [place for place, cars in enumerate(series.cars) if cars is not None]
+    if not known:
+        return
+    missing = [place for place in range(known[0], known[-1]) if series.cars[place] is None]
+    if missing:
+        times = ", ".join(clock.to_text(place * interval) for place in missing[:MOST_LISTED]) + (", .." if len(missing) > MOST_LISTED else "")
+        notes.append(f"the demand of station {series.station.name} is interpolated in {count_things(len(missing), 'interval')} without a "
+                     f"count, at {times}")
+    for number, first, which in ((known[0], 0, "first"), (len(series.cars) - 1 - known[-1], known[-1] + 1, "last")):
+        if number:
+            notes.append(f"the demand of station {series.station.name} is unknown in {count_things(number, 'interval')}, "
+                         f"{clock.to_text(first * interval)} to {clock.to_text((first + number) * interval)}: it is assumed to be that of its "
+                         f"{which} count. Choose the window of the counts")
+
+
+def place_rows(counts: Counts, clock: Clock, notes: list[str]) -> list[PlacedRow]:
+    """Return the rows with their steps, and add notes on duplicate rows and on times that the clock skips.
+
+    When the clock is put back, an hour comes twice: a second row of the same time then belongs to the second hour."""
+    again = {row.line for row in counts.repeated if clock.comes_twice(find_moment(clock, row))}
+    own = replace(counts, notes=[])
+    note_lines(own, [row.line for row in counts.repeated if row.line not in again], *(
+        f"{what} the station and time of an earlier row: only the first one counts" for what in ("row has", "rows have")))
+    rows = [*counts.rows, *(row._replace(time=row.time.replace(fold=1)) for row in counts.repeated if row.line in again)]
+    skipped = [row.line for row in rows if clock.skips(find_moment(clock, row))]
+    note_lines(own, skipped, *(f"{what} at a time that the clock change in {clock.zone} skips: ignored" for what in ("row is", "rows are")))
+    notes += own.notes
+    return [PlacedRow(row, find_step(clock, row)) for row in rows if row.line not in skipped]
+
+
+def find_moment(clock: Clock, row: Row) -> datetime.datetime:
+    """Return the date and time of a row. A clock time belongs to the first day of the run, or to the next day if it is before the
+    beginning."""
+    if isinstance(row.time, datetime.datetime):
+        return row.time
+    return clock.find_moment(row.time)
+
+
+def find_lanes_downstream(ramp: Station, main: Iterable[Station], sign: int) -> int:
+    """Return the lanes of the next main-line station downstream of a ramp, or of the last station."""
+    stations = list(main)
+    return next((one.lanes for one in stations if sign * one.km >= sign * ramp.km), stations[-1].lanes)
+
+
+def make_series(counts: Counts, station: Station, rows: list[PlacedRow], lanes: int, interval: int, seconds: int, clock: Clock,
+              notes: list[str]) -> Series:
+    """Make the series of a station per lane, and add notes on missing and zero intervals."""
+    number = seconds // interval
+    cars: list[float | None] = [None] * number
+    speeds: list[float | None] = [None] * number
+    lines = [0] * number
+    odd, high, noted = [], [], set[int]()
+    for row, step in rows:
+        if not 0 <= step < seconds:
+            continue
+        if step % interval:
+            odd.append(row.line)
+            continue
+        place = step // interval
+        lines[place] = row.line
+        count = None if row.cars is None else row.cars * (interval / HOUR if counts.are_per_hour else 1)
+        if count is None or count > MOST_FLOW * station.lanes * interval / HOUR:
+            noted.add(place)
+            if count is not None:
+                high.append(row.line)
+            continue
+        cars[place] = count / lanes
+        speeds[place] = row.speed
+    own = replace(counts, notes=[])
+    note_lines(own, high, *(f"{what} more than {MOST_FLOW:,.0f} cars per hour and lane: treated as missing" for what in
+                            (f"row of station {station.name} has", f"rows of station {station.name} have")))
+    note_lines(own, odd, *(f"{what} at a whole interval of {count_things(interval // 60, 'minute')}: ignored"
+                           for what in (f"row of station {station.name} does not begin", f"rows of station {station.name} do not begin")))
+    zero = [place for place, count in enumerate(cars) if count == 0]
+    faulty = [place for place in zero if is_suspicious(cars, place)]
+    note_lines(own, [lines[place] for place in zero if place not in faulty], f"row of station {station.name} has no car",
+               f"rows of station {station.name} have no car")
+    note_lines(own, [lines[place] for place in faulty], *(f"{what} no car between two that have many: treated as missing" for what in
+                                                          (f"row of station {station.name} has", f"rows of station {station.name} have")))
+    for place in faulty:
+        cars[place] = speeds[place] = None
+    missing = [place for place, count in enumerate(cars) if count is None and place not in faulty and place not in noted]
+    if missing:
+        times = ", ".join(clock.to_text(place * interval) for place in missing[:5]) + (", .." if len(missing) > 5 else "")
+        after = max((line for place, line in enumerate(lines) if line and place < missing[0]), default=0)
+        behind = f" (the first after line {after})" if after else ""
+        own.notes.append(f"{counts.path}: station {station.name} has no row for {len(missing)} interval{'s' * (len(missing) > 1)}, "
+                          f"at {times}{behind}")
+    notes += own.notes
+    return Series(station, cars, speeds)
+
+
+def is_suspicious(cars: list[float | None], place: int) -> bool:
+    """Return whether a zero is between two intervals with many cars."""
+    neighbours = [next((one for one in part if one), 0) for part in (cars[place::-1][1:], cars[place + 1:])]
+    return min(neighbours) >= SUSPICIOUS
+
+
+def check_clock_changes(counts: Counts, clock: Clock, seconds: int, notes: list[str]) -> None:
+    """Add a note if the clock changes in the window."""
+    if clock.zone is None:
+        return
+    offsets = [clock.to_datetime(step).utcoffset() for step in range(0, seconds + 1, 900)]
+    for place, (before, after) in enumerate(zip(offsets, offsets[1:])):
+        if before != after and before is not None and after is not None:
+            is_back = after < before
+            notes.append(f"{counts.path}: the clock changes at {clock.to_text((place + 1) * 900)} in {clock.zone}: an hour "
+                        + ("comes twice; without an offset from UTC the first row of a time belongs to the first hour" if is_back else "is skipped"))
+
+
+def cut_at_exit(lines: list[Series], ramps: list[Series]) -> tuple[list[Series], str]:
+    """Return the stations up to the first one after which the flow falls by more than counting error, and a sentence if there is one."""
+    for place, (one, following) in enumerate(zip(lines, lines[1:])):
+        both = [index for index, (before, after) in enumerate(zip(one.cars, following.cars)) if before is not None and after is not None]
+        before = math.fsum(one.cars[index] or 0 for index in both)
+        after = math.fsum(following.cars[index] or 0 for index in both)
+        joining = math.fsum(ramp.cars[index] or 0 for ramp in ramps for index in both
+                            if one.station.km <= ramp.station.km < following.station.km)
+        expected = before + joining
+        if expected - after > max(COUNTING_ERROR * expected, 3 * math.sqrt(expected)):
+            return lines[:place + 1], (
+                f"from station {one.station.name} (km {one.station.km:g}) to {following.station.name} (km {following.station.km:g}) "
+                f"the flow per lane falls from {expected:.0f} to {after:.0f} cars, as at an off-ramp, which the model does not have. "
+                f"Only stations up to {one.station.name} are compared")
+    return lines, ""

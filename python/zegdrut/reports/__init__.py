@@ -1,0 +1,1 @@
+"""Write reports, pictures and tables."""

@@ -1,0 +1,195 @@
+"""Write the page of a report: one self-contained HTML file that prints on A4.
+
+    html = format_page(Contents(title="..", facts=[..], works=[..], sides=sides, days=days, rows=rows, ..))
+"""
+from __future__ import annotations
+
+import re
+from dataclasses import dataclass, field
+from html import escape
+from pathlib import Path
+from typing import Sequence
+
+from ..figures.intervals import CHANCE, FEW_DAYS, warn_few_days
+from ..figures.trips import Window
+from ..program.programs import program_path, read_record, sum_file
+from ..roads.clock import Clock
+from ..roads.demand import Rates
+from ..roads.units import CELLS_A_KM, count_things, format_fixed, format_km, to_km
+from .pictures import AFTER, BEFORE, INLETS, Chart, Line, draw_field, draw_scale, make_speed_field
+from .report import PERIOD, Row, Side, SideDay, make_flow_series, make_speed_series
+
+CELLS_A_PIECE, STEPS_A_PIECE = 7, 30
+NO_SPEED_BANDS = ('<p class="note">The charts of speeds have no intervals: on some days no car may pass in a period, and such a day has no '
+                  'speed.</p>')
+NO_BANDS = f'<p class="note">With fewer than {FEW_DAYS} days the charts have no intervals.</p>'
+MISSING = ("more than one lane: there is no overtaking, and all figures are per lane", "off-ramps, junctions and trucks: all cars behave "
+           "as their zone says", "a queue before an inlet: demand that finds no place is lost", "speeds between whole cells per second, "
+           "which are 27 km/h apart (a cell is 7.5 m)")
+STYLE = """
+@page { size: A4; margin: 12mm }
+body { font: 10.5pt/1.35 sans-serif; color: #111; max-width: 1000px; margin: 1.5em auto; padding: 0 1em }
+h1 { font-size: 17pt; margin: 0 0 .2em } h2 { font-size: 12.5pt; margin: 1em 0 .3em; break-after: avoid }
+p, ul { margin: .3em 0 } ul { padding-left: 1.3em }
+table { border-collapse: collapse; width: 100%; font-size: 9pt; break-inside: avoid; margin-bottom: .8em } thead { display: table-header-group }
+th, td { text-align: right; padding: .12em .5em; border-bottom: 1px solid #ccc } th:first-child, td:first-child { text-align: left }
+td { white-space: nowrap } tr { break-inside: avoid }
+svg { max-width: 100%; height: auto; display: block; break-inside: avoid }
+.pairs { display: grid; grid-template-columns: 1fr 1fr; gap: 0 10px } .pairs > div { break-inside: avoid }
+.note { color: #555; font-size: 9pt } .window { font-size: 12pt; margin: 0 0 .5em } .warning { font-weight: bold }
+@media print { body { margin: 0; padding: 0; max-width: none } * { print-color-adjust: exact; -webkit-print-color-adjust: exact } }
+"""
+
+
+@dataclass(frozen=True)
+class Contents:
+    """The contents of a report. `days` has for each day the runs of both sides."""
+
+    title: str
+    facts: Sequence[str]
+    """Length, drivers and demand of the road, a sentence each."""
+    works: Sequence[str]
+    notes: Sequence[str]
+    """What was rounded to the model."""
+    clock: Clock
+    window: Window
+    length: int
+    """The length of the road in cells."""
+    detectors: Sequence[int]
+    sides: Sequence[Side]
+    days: Sequence[Sequence[SideDay]]
+    rows: Sequence[Row]
+    seed: int | str
+    closed: Sequence[Sequence[tuple[int, int, float, float]]] = field(default_factory=list)
+    """For each side its closures, as (from step, to step, from km, to km)."""
+    more: str = ""
+    """HTML that follows the charts."""
+    demand: str = ""
+    """A chart of the demand over time as SVG."""
+
+
+def format_number(value: float | None, digits: int = 1) -> str:
+    """Return a number for the table; an empty string if it is unknown."""
+    return "" if value is None else format_fixed(value, digits, ",")
+
+
+def count_digits(name: str) -> int:
+    """Return the number of decimals of a figure."""
+    return 2 if "vehicle hours" in name else 0 if "cars" in name else 1
+
+
+def make_table_html(sides: Sequence[Side], rows: Sequence[Row], days: int) -> str:
+    """Return the table of figures as HTML."""
+    head = "".join(f"<th>{escape(side.name)}</th><th>±</th>" for side in sides)
+    head += "<th>difference</th><th>±</th><th></th>" if len(sides) == 2 else ""
+    lines = []
+    for row in rows:
+        digits = count_digits(row.name)
+        cells = [format_number(value, digits) for pair in row.sides for value in pair]
+        if len(sides) == 2:
+            cells += [*(format_number(value, digits) for value in row.difference or (None, None)), CHANCE * bool(row.may_be_chance)]
+        lines.append(f"<tr><td>{escape(row.name)}</td>" + "".join(f"<td>{cell}</td>" for cell in cells) + "</tr>")
+    said = ("± is half the 95 % interval of the mean (Student's t), in the unit of its row; for the difference it is paired by day. "
+            f"“{CHANCE}”: the interval of the difference contains 0; a figure that does not differ on any day has no remark. A speed is the mean of the days' time-mean speeds." if days > 1
+            else "One day has no interval.")
+    return (f'<table><thead><tr><th>{f"mean of {days} days" if days > 1 else "one day"}</th>{head}</tr></thead><tbody>{"".join(lines)}</tbody>'
+            f'</table><p class="note">{said}</p>')
+
+
+def make_fields_html(contents: Contents) -> str:
+    """Return the space-time diagrams of the first day, with one scale."""
+    first, last = contents.window
+    ramps = [to_km(int(cell)) for cell, _ in contents.sides[0].script.plan["inlets"] if cell]
+    drawn = []
+    for place, (side, day) in enumerate(zip(contents.sides, contents.days[0])):
+        closed = contents.closed[place] if place < len(contents.closed) else []
+        drawn.append(draw_field(make_speed_field(day.rows, STEPS_A_PIECE, CELLS_A_PIECE), f"Space-mean speed: {side.name} (seed {contents.seed})",
+                                contents.clock, first, last, contents.length / CELLS_A_KM, width=900, height=210, closed=closed, ramps=ramps,
+                                detectors=[to_km(cell) for cell in contents.detectors]))
+    return "".join([*drawn, draw_scale(900, has_ramps=bool(ramps), has_detectors=bool(contents.detectors))])
+
+
+def make_charts_html(contents: Contents) -> str:
+    """Return flow and speed by time at each detector."""
+    (first, last), parts = contents.window, []
+    colours = [BEFORE, AFTER] if len(contents.sides) == 2 else [AFTER]
+    for detector, cell in enumerate(contents.detectors):
+        flow = Chart(f"Flow, km {format_km(cell)}", "cars/h", contents.clock, first, last)
+        speed = Chart(f"Time-mean speed, km {format_km(cell)}", "km/h", contents.clock, first, last, top=135.0)
+        for place, (side, colour) in enumerate(zip(contents.sides, colours)):
+            of_side = [both[place] for both in contents.days]
+            series = make_flow_series(of_side, detector, contents.window)
+            has_band = len(contents.days) >= FEW_DAYS and all(half is not None for *_, half in series)
+            flow.add(Line(side.name, [(date, mean) for date, mean, _ in series], colour,
+                          [(mean or 0) - (half or 0) for _, mean, half in series] if has_band else None,
+                          [(mean or 0) + (half or 0) for _, mean, half in series] if has_band else None))
+            speed.add(Line(side.name, make_speed_series(of_side, detector, contents.window), colour))
+        parts += [f"<div>{chart.draw(470, 175)}</div>" for chart in (flow, speed)]
+    return f'<div class="pairs">{"".join(parts)}</div>'
+
+
+def describe_program() -> str:
+    """Return the name of the program, whether it is proved, and the beginning of its SHA-256."""
+    path = Path(program_path())
+    made = read_record(path)
+    proved = "proved" if made is not None and made.proved else "unproved"
+    return f"{path.name}, {proved}, SHA-256 {sum_file(path)[:16]}"
+
+
+def draw_demands(sides: Sequence[tuple[str, Sequence[tuple[str, Rates]]]], clock: Clock, window: Window) -> str:
+    """Return the demand of each inlet of some roads in a window as a chart; an empty string if none changes there.
+
+    `sides` has the name of each road, with the name and the demand of each of its inlets."""
+    chart, changes = Chart("Demand", "cars/h", clock, window.first, window.last), False
+    for place, (side, inlets) in enumerate(sides):
+        for inlet, (name, rates) in enumerate(inlets):
+            points: list[tuple[float, float | None]] = []
+            for (step, cars), end in zip(rates, [*(step for step, _ in rates[1:]), window.last]):
+                begin, until = max(step, window.first), min(end, window.last)
+                points += [(begin, cars), (until, cars)] if begin < until else []
+            changes = changes or len({cars for _, cars in points}) > 1
+            chart.add(Line(f"{side}: {name}" if side else name, points, INLETS[inlet % len(INLETS)], is_dashed=place < len(sides) - 1))
+    return chart.draw(900, 160) if changes else ""
+
+
+def format_page(contents: Contents) -> str:
+    """Return the report as HTML."""
+    days, clock, (first, last) = len(contents.days), contents.clock, contents.window
+    seeds = f"{contents.seed}" if days == 1 or isinstance(contents.seed, str) else f"{contents.seed} to {contents.seed + days - 1}"
+    times = f"{clock.to_text(first)} to {clock.to_text(last)}"
+    few = "".join(f'<p class="warning">{escape(one)}.</p>' for one in warn_few_days(days))
+    parts = [
+        f"<h1>{escape(contents.title)}</h1>", f'<p class="window">{escape(describe_window(contents))}</p>', few, make_list_html(contents.facts),
+        contents.demand,
+        "<h2>Works</h2>" + make_list_html(contents.works or ["none"]),
+        f'<p class="note">Rounded to the model: {escape_text("; ".join(contents.notes))}.</p>' if contents.notes else "",
+        f"<h2>Space-time diagrams</h2>{make_fields_html(contents)}",
+        f"<h2>Flow and speed by time, each {PERIOD // 60} minutes, {f'mean of {days} days' if days > 1 else 'one day'}</h2>"
+        + (NO_BANDS if 1 < days < FEW_DAYS else NO_SPEED_BANDS if days >= FEW_DAYS else "") + make_charts_html(contents)
+        if contents.detectors else "",
+        f"<h2>Figures, {times}</h2>{make_table_html(contents.sides, contents.rows, days)}",
+        contents.more, "<h2>What the model does not have</h2>" + make_list_html(MISSING),
+        f'<p class="note">Seeds {seeds}; program {escape(describe_program())}. Delay is the time that the cars of both roads spend on the road '
+        "in this window, after minus before; lost demand is demand minus admitted cars, and varies by chance by "
+        "about twice the square root of the demand.</p>"]
+    return (f'<!DOCTYPE html>\n<html lang="en"><head><meta charset="utf-8"><title>{escape(contents.title)}</title><style>{STYLE}</style></head>'
+            f'<body>{"".join(parts)}</body></html>\n')
+
+
+def describe_window(contents: Contents) -> str:
+    """Return the date, the window and the number of days, and when the run began with an empty road."""
+    clock, (first, last), days = contents.clock, contents.window, len(contents.days)
+    date = f"{clock.to_datetime(first).date()}, " if clock.date else ""
+    begin = (f"The road is empty at {clock.to_text(0)}: the figures include the time in which it fills" if first == 0 else
+             f"The run begins at {clock.to_text(0)} with an empty road, before these figures")
+    return f"{date}{clock.to_text(first)} to {clock.to_text(last)}, {count_things(days, 'simulated day')}. {begin}."
+
+
+def make_list_html(sentences: Sequence[str]) -> str:
+    """Return sentences as a list."""
+    return "<ul>" + "".join(f"<li>{escape_text(one)}</li>" for one in sentences) + "</ul>"
+
+
+def escape_text(sentence: str) -> str:
+    """Return a sentence as HTML. Names between backticks are shown as code."""
+    return re.sub("`([^`]+)`", r"<code>\1</code>", escape(sentence))
