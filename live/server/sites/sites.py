@@ -19,13 +19,14 @@ from typing import TYPE_CHECKING, Callable, Deque, Iterator, Mapping, NamedTuple
 
 from ..background.supervised import supervise
 from ..journal.journal import to_json
-from ..journal.keeper import SHARED, Times
+from ..journal.keeper import SHARED
 from ..journal.lab import FutureStamp, Lab
 from ..journal.state import SITE_FORM, State
 from ..model.operations import Json, Operation
 from ..model.projection import Edits
 from ..model.reading import Malformed, read_operation
 from ..model.road import Road
+from ..roads.program import Times
 from ..tabs.asked import LONGEST_NAME, LONGEST_NOTE, clean_text
 from ..tabs.refusals import Refused
 from .brokers import broker_of, connack_string, new_client
