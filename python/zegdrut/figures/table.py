@@ -27,8 +27,9 @@ FREEWAY = Units(METRES, 1.0)
 
 
 class Of(NamedTuple):
-    """What a figure belongs to: an inlet, a detector, or a route from an inlet to a detector, by their indexes. Without a detector, a route
-    ends at the road's end; without both, the figure belongs to the whole road."""
+    """An inlet, a detector, or a route from an inlet to a detector, by their indexes, to which a figure belongs.
+
+    Without a detector, a route ends at the road's end. Without both, the figure belongs to the whole road."""
 
     inlet: int | None = None
     detector: int | None = None
