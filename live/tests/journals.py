@@ -19,7 +19,7 @@ from typing import Any
 from unittest import mock
 
 import running
-from faulty import Disk
+from faulty import Disk, Here, soon
 from server.tabs.client import Seat
 from server.journal.journal import CannotStart, Entries, Journal, NotWritten, lock, put_in_place, read_entries
 from server.journal.keeper import Keeper
@@ -40,6 +40,12 @@ def line_of(entry: dict[str, Any], sum_as: str | None = "crc") -> bytes:
     text = json.dumps(entry, ensure_ascii=False, separators=(",", ":")).encode()
     summed = f',"{sum_as}":"{binascii.crc32(text):08x}"}}'.encode() if sum_as else b"}"
     return text[:-1] + summed + b"\n"
+
+
+async def forked() -> None:
+    """Wait until the process runs that writes the new journal."""
+    while not list(running.descendants()):
+        await asyncio.sleep(0)
 
 
 class Reading(unittest.TestCase):
@@ -160,7 +166,7 @@ class Writing(unittest.IsolatedAsyncioTestCase):
         journal = Journal(self.path, 0)
         await journal.write(GESTURES[0])
         compaction = asyncio.ensure_future(journal.compact(lambda: [GESTURES[1]]))  # replaces GESTURES[0] by GESTURES[1]
-        await asyncio.sleep(0)  # lets the process start that writes the new journal
+        await forked()
         await journal.write(GESTURES[2])
         await compaction
         self.assertEqual(read_entries(self.path)[0], GESTURES[1:])
@@ -179,7 +185,7 @@ class Writing(unittest.IsolatedAsyncioTestCase):
                 time.sleep(0.02)
             yield from held
         compaction = asyncio.ensure_future(journal.compact(entries))
-        await asyncio.sleep(0)
+        await forked()
         held.append(GESTURES[0])
         many: list[Any] = [{"gesture": {"note": "x" * 60_000, "number": number}} for number in range(20)]
         for entry in many:
@@ -190,6 +196,49 @@ class Writing(unittest.IsolatedAsyncioTestCase):
         await journal.write(GESTURES[2])
         self.assertEqual(read_entries(self.path)[0], [GESTURES[1], *many, GESTURES[2]])
         self.assertEqual([one.name for one in self.path.parent.iterdir()], [self.path.name])
+
+    async def test_a_compaction_does_not_wait_until_nothing_is_written(self) -> None:
+        """While entries are written without a pause, those before the compaction are in it, and the others follow it."""
+        journal, applied = Journal(self.path, 0), list[Any]()
+        is_enough = False
+
+        async def writes() -> None:
+            while not is_enough:
+                entry: Any = {"gesture": {"number": len(applied)}}
+                applied.append(entry)
+                await journal.write(entry)
+        writers = [asyncio.create_task(writes()) for _ in range(3)]
+        await asyncio.sleep(0.01)
+        await asyncio.wait_for(journal.compact(lambda: [{"all": {"before": len(applied)}}]), running.PATIENCE)
+        is_enough = True
+        await asyncio.gather(*writers)
+        (first, *others), _ = read_entries(self.path)
+        before = first["all"]["before"]
+        assert isinstance(before, int) and before > 0
+        self.assertEqual(others, applied[before:])
+        self.assertGreater(len(others), 3)
+
+    async def test_a_journal_that_is_moved_or_replaced_is_noticed_before_the_next_confirmation(self) -> None:
+        """The entry is in no file. Once the journal is back, entries are written."""
+        journal, aside = Journal(self.path, 0), self.path.with_name("aside")
+        await journal.write(GESTURES[0])
+        for other in (None, line_of(GESTURES[0]), b""):
+            self.path.rename(aside)
+            if other is not None:
+                self.path.write_bytes(other)
+            await journal.compact(lambda: [GESTURES[1]])
+            for _ in range(2):
+                with self.assertRaisesRegex(NotWritten, "moved or replaced while the server was running: put it back"):
+                    await journal.write(GESTURES[1])
+                with self.assertRaisesRegex(OSError, "put it back"):
+                    await journal.probe_disk(GESTURES[1])
+            self.assertEqual(journal.read_confirmed(), GESTURES[:1])
+            self.assertEqual(aside.read_bytes(), line_of(GESTURES[0]))
+            self.assertEqual(self.path.read_bytes() if self.path.exists() else None, other)
+            aside.rename(self.path)
+            journal.fault = None
+        await journal.write(GESTURES[2])
+        self.assertEqual(read_entries(self.path)[0], GESTURES[::2])
 
     async def test_a_compaction_that_fails_leaves_the_old_journal(self) -> None:
         """It does so whichever call fails, in the process that writes the new journal or in this one."""
@@ -477,6 +526,79 @@ class Folders(Case):
             now = [await seat.ask("scenario", at=at) for seat, at in ((ada, ada.at), (ben, ben.at), (ada, "shared"))]
             self.assertEqual([numbers(one["edits"]) for one in held], [numbers(one["edits"]) for one in now])
             self.assertEqual((await ada.ask("gesture", key="g0", edits=[["limit", 0, 1, 1]]))["stamp"], [1, 65])
+
+    async def test_a_journal_is_shortened_under_steady_work_and_the_clock_survives_a_kill(self) -> None:
+        """Three robots have four changes each on their way, without a pause."""
+        server = self.server(LIVE_MOST_JOURNAL="30000")
+        path, confirmed = server.folder / "journal.jsonl", set[str]()
+        first = path.stat().st_ino
+        async with server.seat("Ada") as ada, server.seat("Ben") as ben, server.seat("Cleo") as cleo:
+            async def works(seat: Seat, part: int) -> None:
+                with contextlib.suppress(ConnectionError):
+                    for count in itertools.count():
+                        key = f"{part} {count}"
+                        await seat.ask("gesture", key=key, shape=["limit", part, part, count % 500, None, count % 5])
+                        confirmed.add(f"{seat.at} {key}")
+            robots = [asyncio.create_task(works(seat, part)) for seat in (ada, ben, cleo) for part in range(4)]
+            await ada.say("clock", rate=5)
+
+            async def is_shortened() -> bool:
+                return path.stat().st_ino != first
+            await running.until(is_shortened, "it is shortened", running.PATIENCE / 3)
+            await asyncio.sleep(3)
+            now = (await ada.say("clock", rate=5))["now"]
+            await asyncio.sleep(4)
+            server.kill()
+            await asyncio.gather(*robots)
+        server.start()
+        async with server.seat(key=ada.key) as ada:
+            self.assertGreaterEqual(ada.welcome["now"], now + 5)
+        made = [entry["made"] for entry in server.journal() if "key" in entry.get("made", {})]
+        kept = {f"seat{one['seat']} {one['key']}" for one in made}
+        done = [entry["done"] for entry in server.journal() if "done" in entry]
+        kept |= {f"seat{one['seat']} {key}" for one in done for key, _ in one["keys"]}
+        self.assertLessEqual(confirmed, kept)
+
+    async def test_a_compaction_has_what_takes_effect_only_once_it_is_on_the_disk(self) -> None:
+        """The clock is pending when the compaction begins."""
+        here = await self.enterAsyncContext(Here())
+        ada, = await here.join("Ada")
+        with Disk(here.folder) as disk:
+            disk.free.clear()
+            disk.is_asked.clear()
+            gesture = asyncio.create_task(here.ask(ada, "gesture", key="k", shape=["limit", 2, 2, 50, None, 1]))
+            await soon(asyncio.to_thread(disk.is_asked.wait))
+            clock = asyncio.create_task(here.lab.timing.set_clock(to=77))
+            while not here.keeper._unapplied:
+                await asyncio.sleep(0)
+            compaction = asyncio.create_task(here.keeper.compact())
+            await asyncio.sleep(0.1)
+            disk.free.set()
+            await soon(asyncio.gather(gesture, clock, compaction))
+        entries = here.entries()
+        self.assertEqual([entry["clock"]["now"] for entry in entries if "clock" in entry], [0, 77])
+        self.assertEqual([entry["made"]["seat"] for entry in entries if "made" in entry], [ada])
+        self.assertEqual(here.keeper.now(), 77)
+
+    async def test_a_server_whose_journal_was_moved_away_confirms_nothing_until_it_is_back(self) -> None:
+        server = self.server()
+        path, aside = server.folder / "journal.jsonl", server.folder / "aside"
+
+        async def put(seat: Seat, step: int) -> Any:
+            return await seat.reply("gesture", at=seat.at, key=f"k{step}", shape=["limit", 2, 2, step, None, 1])
+        async with server.seat() as ada:
+            await put(ada, 50)
+            path.rename(aside)
+            said = await put(ada, 40)
+            self.assertEqual(said["refused"], "NotWritten")
+            self.assertIn("was moved or replaced while the server was running: put it back", said["why"])
+            self.assertEqual(len((await ada.ask("layers"))["layers"]), 1)
+            aside.rename(path)
+            self.assertNotIn("refused", await put(ada, 30))
+        server.restart()
+        async with server.seat(key=ada.key) as ada:
+            shapes: list[Any] = [line["shape"] for line in (await ada.ask("layers"))["layers"]]
+            self.assertEqual([shape[3] for shape in shapes], [50, 30])
 
     async def test_the_compacted_journal_gives_the_same_state(self) -> None:
         server = self.server()

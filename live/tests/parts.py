@@ -46,11 +46,11 @@ class Parts(Case):
         self.assertIsNone(tabs._trouble)
 
     async def test_the_task_that_keeps_the_clock_goes_on(self) -> None:
-        """So do compaction and the freeing of seats."""
+        """So does the freeing of seats."""
         call = failing_once(lambda lab: None)
         with mock.patch.object(Timing, "save", call):
             here = await self.enterAsyncContext(Here())
-            await self.ends(here, call, "the task that saves the clock, frees seats and shortens the journal")
+            await self.ends(here, call, "the task that saves the clock and frees seats")
 
     async def test_questions_are_answered(self) -> None:
         """Even the seat whose turn it was."""

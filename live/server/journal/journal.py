@@ -42,6 +42,18 @@ class NotWritten(Exception):
     """An entry could not be written to the disk."""
 
 
+class Displaced(OSError):
+    """The journal of a running server was moved away, removed or replaced."""
+
+    def __init__(self, path: Path) -> None:
+        super().__init__(errno.ESTALE, f"{path} was moved or replaced while the server was running: put it back, or stop the server")
+
+
+def explain_fault(fault: OSError) -> str:
+    """Return why an entry was not written, as a sentence."""
+    return str(fault.strerror) if isinstance(fault, Displaced) else f"the disk does not accept writes ({fault.strerror})"
+
+
 @contextlib.contextmanager
 def lock(folder: Path) -> Iterator[None]:
     """Lock a folder, since two servers there would issue the same stamps. Raise `CannotStart` if another server has locked it. The
@@ -176,6 +188,7 @@ class Journal:
         self._waiting: list[tuple[str, Then, asyncio.Future[None]]] = []
         self._last: asyncio.Future[None] | None = None
         self._writer: asyncio.Future[None] | None = None
+        self._turn = asyncio.Lock()  # held by a write, and by the steps of a compaction that must lie between two writes
         self._began: float | None = None  # the start of the pending call to the disk; None if no call is pending
         self._is_read_only = self._is_closed = False
         self._file = self._open()
@@ -234,23 +247,30 @@ class Journal:
     async def _write_waiting(self) -> None:
         try:
             while self._waiting and self.fault is None:
-                batch, self._waiting = self._waiting, []
-                data = b"".join(journal_line(text, place == 0) for place, (text, _, _) in enumerate(batch))
-                try:
-                    await self._call_disk(self._append, data)
-                except OSError as fault:
-                    self._waiting = batch + self._waiting
-                    self._fail_waiting(fault)
-                    return
-                for _, then, done in batch:
-                    try:
-                        then()
-                    except Exception:  # pylint: disable=broad-except
-                        logging.exception("an entry is on the disk, but its callback raised an exception")
-                    if not done.done():
-                        done.set_result(None)
+                async with self._turn:
+                    await self._write_batch()
         finally:
             self._writer = None
+
+    async def _write_batch(self) -> None:
+        """Write all entries that are waiting now. To be called in the turn."""
+        batch, self._waiting = self._waiting, []
+        if not batch:
+            return
+        data = b"".join(journal_line(text, place == 0) for place, (text, _, _) in enumerate(batch))
+        try:
+            await self._call_disk(self._append, data)
+        except OSError as fault:
+            self._waiting = batch + self._waiting
+            self._fail_waiting(fault)
+            return
+        for _, then, done in batch:
+            try:
+                then()
+            except Exception:  # pylint: disable=broad-except
+                logging.exception("an entry is on the disk, but its callback raised an exception")
+            if not done.done():
+                done.set_result(None)
 
     async def _call_disk(self, does: Callable[P, None], *given: P.args, **named: P.kwargs) -> None:
         """Call a function that waits for the disk, on another thread."""
@@ -261,7 +281,7 @@ class Journal:
             self._began = None
 
     def _fail_waiting(self, fault: OSError) -> None:
-        self.fault = f"the disk does not accept writes ({fault.strerror})"
+        self.fault = explain_fault(fault)
         self.failures += 1
         waiting, self._waiting, self._last = self._waiting, [], None
         for _, _, done in waiting:
@@ -271,11 +291,21 @@ class Journal:
     def _append(self, data: bytes, more: bytes = b"") -> None:
         try:
             write(self._file, [data, more])
+            self._require_in_place()
         except OSError:
             with contextlib.suppress(OSError):  # `probe_disk` cuts again
                 self._cut()
             raise
         self.size += len(data)
+
+    def _require_in_place(self) -> None:
+        """Raise `Displaced` if the journal's path does not name the file that this server writes."""
+        try:
+            is_in_place = os.path.samestat(os.stat(self.path), os.fstat(self._file))
+        except (FileNotFoundError, NotADirectoryError):
+            is_in_place = False
+        if not is_in_place:
+            raise Displaced(self.path)
 
     def _cut(self) -> None:
         os.ftruncate(self._file, self.size)
@@ -283,15 +313,17 @@ class Journal:
 
     def read_confirmed(self) -> list[JournalLine]:
         """Read all confirmed entries from the disk, which need not be writable."""
-        return read_entries(self.path, self.size)[0]
+        return read_entries(Path(f"/proc/self/fd/{self._held}"), self.size)[0]
 
     async def probe_disk(self, entry: JournalLine) -> None:
         """Try whether the disk accepts writes again: append an entry and as many bytes as a gesture can have, and remove these bytes.
         From then on `write` works again. Raise OSError if the disk refuses."""
-        await self._call_disk(self._write_probe, entry)
+        async with self._turn:
+            await self._call_disk(self._write_probe, entry)
         self.fault = None
 
     def _write_probe(self, entry: JournalLine) -> None:
+        self._require_in_place()
         if self._is_read_only:
             file, old = open_for_append(self.path), self._file
             self._file, self._is_read_only = file, False
@@ -302,30 +334,32 @@ class Journal:
         self._cut()
 
     async def compact(self, entries: Callable[[], Iterable[JournalLine]]) -> None:
-        """Replace all that was written so far by `entries()`, and append what is written meanwhile. A forked process writes the entries,
-        as they are at a moment when no write is waiting; other writes go on."""
-        while self._writer is not None:
-            await asyncio.wait([self._writer])
+        """Replace all that was written so far by `entries()`, and append what is written meanwhile. `entries` is called between two
+        writes, and its result includes what waits to be written then. A forked process writes it, while other writes go on."""
         if self.fault is not None:
             return
-        copied, failures = self.size, self.failures
-        if not await self._is_written(fork_writer(self.path, entries)):
+        failures = self.failures
+        process, copied = await asyncio.shield(self._fork(entries))
+        if not await self._is_written(process):
             logging.warning("the journal was not compacted: the shorter one could not be written to the disk")
             return
         file = open_for_append(successor_path(self.path))
         try:
             while self.size - copied > ROOM and self.failures == failures:
                 copied = await self._run_in_background(self._copy, file, copied)
-            while self._writer is not None:
-                await asyncio.wait([self._writer])
-            if self.failures == failures and not self._is_closed:
-                self._writer = asyncio.ensure_future(self._replace(file, copied))
-                await asyncio.wait([self._writer])
+            await asyncio.wait([asyncio.ensure_future(self._replace(file, copied, failures))])
         except OSError as fault:
             logging.warning("the journal was not compacted: %s", fault)
         finally:
             if file != self._file:
                 close_all(file)
+
+    async def _fork(self, entries: Callable[[], Iterable[JournalLine]]) -> tuple[int, int]:
+        """Start the process that writes `entries()`. Return its number, and the length of the journal with all that these include."""
+        async with self._turn:
+            process = fork_writer(self.path, entries)
+            await self._write_batch()
+            return process, self.size
 
     async def _is_written(self, process: int) -> bool:
         """Wait for the process that writes the entries. Return whether all of them are on the disk."""
@@ -343,25 +377,27 @@ class Journal:
     def _copy(self, file: int, begin: int) -> int:
         """Append what was written from the byte `begin` on to another file. Return the byte up to which it was copied."""
         end = self.size
-        with open(self.path, "rb") as journal:
-            journal.seek(begin)
-            write(file, [journal.read(end - begin)])
+        write(file, [os.pread(self._held, end - begin, begin)])
         return end
 
-    async def _replace(self, file: int, copied: int) -> None:
-        try:
-            await self._call_disk(self._rename, file, copied)
-        except OSError as fault:
-            logging.warning("the journal was not compacted: %s", fault)
-        else:
+    async def _replace(self, file: int, copied: int, failures: int) -> None:
+        """Replace the journal by the new file, between two writes, unless a write has failed since the new file was begun."""
+        async with self._turn:
+            if self.failures != failures or self._is_closed:
+                return
+            try:
+                await self._call_disk(self._rename, file, copied)
+            except OSError as fault:
+                logging.warning("the journal was not compacted: %s", fault)
+                return
             try:
                 await self._call_disk(sync_folder, self.path.parent)
             except OSError as fault:  # after a crash the old journal may be there again
                 self._fail_waiting(fault)
-        await self._write_waiting()
 
     def _rename(self, file: int, copied: int) -> None:
         """Lock the new file, and rename it over the old one. A reader sees either file, complete."""
+        self._require_in_place()
         self._copy(file, copied)
         lock_of_new = open_locked(successor_path(self.path))
         try:
@@ -376,11 +412,14 @@ class Journal:
 
     async def close(self) -> None:
         """Close the files when the disk has answered. If it does not answer for some seconds, leave that to the end of the process."""
-        if self._writer is not None:
-            await asyncio.wait([self._writer], timeout=LAST_WAIT)
-        if self._writer is None and not self._is_closed:
-            self._is_closed, self.fault = True, self.fault or "the server has stopped"
-            close_all(self._file, self._held)
+        with contextlib.suppress(TimeoutError):
+            async with asyncio.timeout(LAST_WAIT):
+                while self._writer is not None:
+                    await asyncio.wait([self._writer])
+                async with self._turn:
+                    if not self._is_closed:
+                        self._is_closed, self.fault = True, self.fault or "the server has stopped"
+                        close_all(self._file, self._held)
 
 
 def close_all(*files: int) -> None:

@@ -15,22 +15,20 @@ import os
 import secrets
 import time
 from pathlib import Path
-from typing import Awaitable, Callable, Dict, Iterable, Mapping, TypeVar, Union
+from typing import Awaitable, Callable, Iterable, Mapping, TypeVar, Union
 
 from zegdrut.program.grammar import LAST_HORIZON
-from zegdrut.program.wire import ReplyFields
 
 from ..background.listeners import Listeners
 from ..background.settings import Settings
 from ..background.supervised import supervise
 from ..model.operations import Json, Operation
 from ..model.road import Road
-from ..roads.program import ProgramExited, Program, command_of, start
+from ..roads.program import ProgramExited, Program, Times, command_of, start
 from ..roads.screen import Differences, Screen
 from ..roads.turns import MORE, Job, More, Turns
-from ..tabs.asked import explain_refusal
 from ..tabs.refusals import Refused
-from .journal import CannotStart, CorruptJournal, Entries, JournalLine, Journal, NotWritten, to_json, put_in_place, sync_folder
+from .journal import CannotStart, CorruptJournal, Entries, JournalLine, Journal, NotWritten, explain_fault, to_json, put_in_place, sync_folder
 from .records import JOURNAL_FORM, AnyEntry, Clock, Folder, Made, Upgraded, read_plan_line
 from .stamps import StampClock
 from .state import NO_PLAN, State
@@ -41,8 +39,6 @@ STALLS = 5.0  # seconds without an answer of the disk after which the page says 
 A_MOMENT = 1.0  # seconds that a try of the disk may keep others waiting
 SHARED = 0
 T = TypeVar("T")
-Times = Dict[str, float]
-"""How an answer took its time: seconds by cause, such as the program or the disk."""
 
 
 class NotKept(Refused):
@@ -76,6 +72,7 @@ class Keeper:
         self._forgotten = 0  # the number of failed writes after which the state was read again from the disk
         self.clock_started = time.monotonic()
         self._former: int | None = None  # the form of a journal that still has to be rewritten in this form
+        self._unapplied: dict[asyncio.Future[None], AnyEntry] = {}  # written entries that take effect once they are on the disk
         self.differences = Differences()
         self._screen: Screen | None = None
         self._next: asyncio.Future[Screen] | None = None
@@ -108,7 +105,8 @@ class Keeper:
         self._forget()
         self._screen = await self._start()
         self.tasks = [supervise("the answers to tabs", self.turns.run, self.report_end),
-                      supervise("the watch over the disk", self._watch_disk, self.report_end)]
+                      supervise("the watch over the disk", self._watch_disk, self.report_end),
+                      supervise("the task that shortens the journal", self.shorten_journal, self.report_end)]
         return is_new
 
     async def _upgrade(self) -> None:
@@ -126,7 +124,16 @@ class Keeper:
 
     async def compact(self) -> None:
         """Shorten the journal: write the present state, with each operation once."""
-        await self.journal.compact(lambda: (entry.written() for entry in self.state.entries()))
+        await self.journal.compact(lambda: (entry.written() for entry in (*self.state.entries(), *self._unapplied.values())))
+
+    async def shorten_journal(self) -> None:
+        """Shorten the journal whenever it is too long; never return."""
+        size = self.settings.most_journal
+        while True:
+            await asyncio.sleep(1)
+            if self.journal.size > size:
+                await self.compact()
+                size = max(self.settings.most_journal, 2 * self.journal.size)
 
     def _read(self, entries: Iterable[JournalLine]) -> tuple[State, int, int]:
         """Return the state that entries describe, their number, and the form of the journal."""
@@ -176,14 +183,17 @@ class Keeper:
     def apply_when_written(self, entry: AnyEntry, then: Callable[[], None]) -> asyncio.Future[None]:
         """Write an entry, and apply it to the state once it is on the disk; then the future is done."""
         def apply() -> None:
+            self._unapplied.pop(done)
             entry.apply(self.state)
             then()
         self._check_disk()
         done = self.journal.write(entry.written(), apply)
+        self._unapplied[done] = entry
         done.add_done_callback(self._is_written)
         return done
 
     def _is_written(self, done: asyncio.Future[None]) -> None:
+        self._unapplied.pop(done, None)
         if not done.cancelled() and done.exception() is not None:
             self.turns.ask(SHARED, do_nothing)  # before this job the state is read again from the disk
 
@@ -234,7 +244,7 @@ class Keeper:
         try:
             await self.journal.probe_disk(self.clock().written())
         except OSError as fault:
-            return f"the disk does not accept writes ({fault.strerror})"
+            return explain_fault(fault)
         await self._upgrade()
         self._trouble = None
         self.listeners.trouble.notify()
@@ -415,20 +425,7 @@ class Keeper:
 
     async def say_all(self, lines: list[bytes], times: Times) -> list[bytes]:
         """Return the program's replies to lines that are sent at once; raise the first refusal."""
-        began = time.perf_counter()
-        replies = await self.program.ask_all(lines)
-        times["program"] = times.get("program", 0) + time.perf_counter() - began
-        for line, reply in zip(lines, replies):
-            if reply.startswith(b'{"refused"'):
-                self.refuse(line, json.loads(reply), self.program)
-        return replies
-
-    def refuse(self, line: bytes, reply: ReplyFields, program: Program) -> None:
-        """Raise the refusal in a program's reply, with a sentence that explains it."""
-        (_, fields), = json.loads(line).items()
-        at = str(fields.get("at"))
-        why = explain_refusal(self.state.plan, at, program.horizons.get(at, 0), line, reply)
-        raise Refused(reply["refused"], why)
+        return await self.program.say_all(lines, times)
 
     def now(self) -> int:
         """Return the step at which the road's clock is."""

@@ -19,13 +19,14 @@ from ..model.operations import (About, Json, Operation, RawName, Shape, Stamp, e
                                undo)
 from ..model.reading import Malformed
 from ..model.road import Road, change, repeat, is_standing
+from ..roads.program import Times
 from ..roads.screen import first_step
 from ..tabs.asked import RawEdit
 from ..tabs.lines import Act, Lister
 from ..tabs.refusals import Refused, not_a_command
 from ..tabs.seating import Seating
 from .checks import Checks
-from .keeper import SHARED, Keeper, Times
+from .keeper import SHARED, Keeper
 from .records import Bound, Came, CameBack, Made, Share, StampedAnew, Take, Works
 from .state import Replica, SeatReplica, State
 from .timing import Timing
@@ -69,7 +70,7 @@ class Lab:
         """Open the keeper's folder. Return whether it is new."""
         is_new = await self.keeper.open(plan, site)
         self._checks = Checks(self.state.plan)
-        self.keeper.tasks.append(supervise("the task that saves the clock, frees seats and shortens the journal", self._look_after,
+        self.keeper.tasks.append(supervise("the task that saves the clock and frees seats", self._look_after,
                                             self.keeper.report_end))
         return is_new
 
@@ -78,9 +79,8 @@ class Lab:
         return self.keeper.state
 
     async def _look_after(self) -> None:
-        """Save the clock, free unused seats and shorten a long journal, at intervals."""
-        settings = self.keeper.settings
-        size, rounds = settings.most_journal, 0
+        """Save the clock and free unused seats, at intervals."""
+        settings, rounds = self.keeper.settings, 0
         while True:
             await asyncio.sleep(1)
             await self.keeper.wait_until_writable()
@@ -90,9 +90,6 @@ class Lab:
             self.timing.save()
             if rounds % 10 == 0 or settings.day < 60:
                 self.seating.free_unused()
-            if self.keeper.journal.size > size:
-                await self.keeper.compact()
-                size = max(settings.most_journal, 2 * self.keeper.journal.size)
 
     # Operations
 

@@ -161,7 +161,7 @@ class Operation:
 class Unreadable(Operation):
     """An operation of a journal that this server cannot read. It keeps its place and its key, and is in no road."""
 
-    value: Mapping[str, Json] = field(default_factory=lambda: NO_MORE)  # what the journal says of it
+    value: Mapping[str, Json] = field(default_factory=lambda: NO_MORE)  # as the journal has it
     why: str = ""
 
     def written(self) -> dict[str, Json]:

@@ -19,13 +19,14 @@ from typing import TYPE_CHECKING, Callable, Deque, Iterator, Mapping, NamedTuple
 
 from ..background.supervised import supervise
 from ..journal.journal import to_json
-from ..journal.keeper import SHARED, Times
+from ..journal.keeper import SHARED
 from ..journal.lab import FutureStamp, Lab
 from ..journal.state import SITE_FORM, State
 from ..model.operations import Json, Operation, Unreadable
 from ..model.projection import Edits
 from ..model.reading import LONGEST_NOTE, Malformed, clean_text
 from ..model.road import Road
+from ..roads.program import Times
 from ..tabs.refusals import Refused
 from .brokers import broker_of, connack_string, new_client
 from .floods import FLOOD, STRANGERS, UNSEALED, Floods, drop_oldest

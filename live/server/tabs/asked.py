@@ -11,8 +11,6 @@ from itertools import islice
 from typing import Iterable, Iterator, Mapping, cast
 
 from zegdrut.program.grammar import GREATEST, Part, kind, list_of, put, row_of, shown, value_of, whole
-from zegdrut.program.refusals import Reasons
-from zegdrut.program.wire import PlanLine, ReplyFields
 
 from ..journal.journal import to_json
 from ..model.demands import INFLOW, MOST_DEMAND
@@ -201,11 +199,3 @@ class CommandFields:
         rest = {name: value for name, value in self._fields.items() if name not in self._known}
         self._known.update(rest)
         return rest
-
-
-def explain_refusal(plan: PlanLine, at: str, horizon: int, line: bytes, reply: ReplyFields) -> str:
-    """Return a sentence that says why the program refused a line of the replica `at`, which has run to `horizon`."""
-    reasons = Reasons()
-    reasons.hear(to_json(plan).encode(), {"open": 1})
-    reasons.hear(to_json({"advance": {"at": at, "to": horizon}}).encode(), {"horizon": horizon})
-    return reasons.hear(line, reply) or f"the program refused it: {reply['refused']}"
