@@ -202,7 +202,7 @@ class Sweeps(Folder):
     def test_files_of_different_sweeps(self) -> None:
         sweep(plain_model, {"x": [1]}, out=self.out)
         other = lambda x, seed: {"y": x}
-        with self.assertRaisesRegex(Fault, "has results of plain_model-[0-9a-f]{8}, but the model is now <lambda>-"):
+        with self.assertRaisesRegex(Fault, "has results of plain_model-[0-9a-f]{12}, but the model is now <lambda>-"):
             sweep(other, {"x": [1]}, out=self.out)
         with self.assertRaisesRegex(Fault, "has the columns x seed model y always odd text, not z seed model"):
             sweep(plain_model, {"z": [1]}, out=self.out)
@@ -254,10 +254,10 @@ class Resuming(Folder):
     def test_a_file_that_is_cut_at_each_byte(self) -> None:
         points, seeds = {"x": [2.5]}, (1, 2)
         sweep(plain_model, points, seeds, out=self.out)
-        whole = self.out.read_bytes()
+        whole, path = self.out.read_bytes(), self.log
 
         def again(x: float, seed: int) -> dict[str, Any]:
-            with open(self.log, "a", encoding="utf-8") as log:
+            with open(path, "a", encoding="utf-8") as log:
                 log.write("run\n")
             return plain_model(x, seed)
         mark = sweep(again, points, seeds).rows[0]["model"]

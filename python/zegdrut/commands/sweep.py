@@ -13,10 +13,11 @@
     --jobs N             the number of processes (default: one per processor)
     --part K/N           run only the K-th of N parts, to share a sweep among machines
     --take FILE ..       first copy the results of other parts
+    --version TEXT       stands for the source of the model in the column `model`: give another one whenever the model changes
 
 The function is called with the parameters of a point by name. Without --measure it also gets `seed`, and returns figures by name. The
 same command continues after an interrupt: runs that --out already has are not repeated. Failed runs are named at the end and in
-FILE.failed. Status 1: a run failed; 2: the arguments are wrong.
+FILE.failed. Status 1: a run failed, or a table has results of another model, measurement or program; 2: the arguments are wrong.
 """
 from __future__ import annotations
 
@@ -33,6 +34,7 @@ from typing import Sequence, cast
 from ..program.bars import Bar
 from ..program.errors import Fault, LabError, describe_error
 from ..reports.outputs import prepare_file
+from ..sweeps.marks import OtherMark
 from ..sweeps.results import format_row, replace_file, read_rows, parse_cell, format_cell
 from ..sweeps.sweeps import Flows, Measure, Model, Points, Sweep, make_grid, list_points, sweep
 
@@ -154,6 +156,7 @@ def read_arguments(words: Sequence[str] | None) -> argparse.Namespace:
     parser.add_argument("--jobs", type=int, metavar="N")
     parser.add_argument("--part", default="1/1", metavar="K/N")
     parser.add_argument("--take", nargs="+", default=[], metavar="FILE")
+    parser.add_argument("--version", metavar="TEXT")
     return parser.parse_args(words)
 
 
@@ -188,7 +191,7 @@ def run_sweep(given: argparse.Namespace) -> int:
     signal.signal(signal.SIGTERM, raise_interrupt)
     try:
         found = sweep(find_function(given.model), read_points(given), seeds, out=given.out, jobs=given.jobs, part=part, take=given.take,
-                      measure=find_measure(given.measure) if given.measure else None, progress=shown.show)
+                      version=given.version, measure=find_measure(given.measure) if given.measure else None, progress=shown.show)
     except KeyboardInterrupt:
         shown.end()
         print(f"the finished runs are in {given.out}: the same command continues from there", file=sys.stderr)
@@ -212,4 +215,4 @@ def main(words: Sequence[str] | None = None) -> int:
         return run_sweep(given)
     except (LabError, OSError) as fault:
         print(describe_error(fault), file=sys.stderr)
-        return 2
+        return 1 if isinstance(fault, OtherMark) else 2

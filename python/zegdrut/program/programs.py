@@ -54,12 +54,14 @@ class Made:
     program: the SHA-256 of the program itself.
     proved: whether it is proved.
     checks: whether it contains the compiler's run-time checks.
+    kit: the line that names the kit, or None in a record that does not have it.
     """
 
     text: str
     program: str
     proved: bool
     checks: bool
+    kit: str | None = None
 
 
 def list_crates(name: str) -> dict[str, list[str]]:
@@ -90,9 +92,9 @@ def sum_file(path: Path) -> str:
     return hashlib.sha256(path.read_bytes()).hexdigest()
 
 
-def write_record(path: Path, text: str, proved: bool, checks: bool) -> None:
-    """Write the record next to a program: the SHA-256 of its source text, and whether it is proved and has checks."""
-    made = Made(text, sum_file(path), proved, checks)
+def write_record(path: Path, text: str, proved: bool, checks: bool, kit: str | None = None) -> None:
+    """Write the record next to a program: the SHA-256 of its source text, whether it is proved and has checks, and its kit."""
+    made = Made(text, sum_file(path), proved, checks, kit)
     path.with_name(path.name + ".made").write_text(json.dumps(asdict(made)) + "\n", encoding="utf-8")
 
 
@@ -103,6 +105,18 @@ def read_record(path: Path) -> Made | None:
         return made if made.program == sum_file(path) else None
     except (OSError, ValueError, TypeError):
         return None
+
+
+def describe_program(path: Path | str | None = None) -> str:
+    """Return a line that distinguishes programs: the SHA-256 of the source text, whether it is proved, and the kit. Without a record it
+    has the SHA-256 of the file; without a program it is "none". By default the program is the one that `find_program` finds."""
+    path = Path(path or find_program())
+    if not path.is_file():
+        return "none"
+    made = read_record(path)
+    if made is None:
+        return f"file {sum_file(path)}"
+    return f"text {made.text}, {'proved' if made.proved else 'not proved'}" + (f", {made.kit}" if made.kit else "")
 
 
 def describe_standing(path: Path | str) -> str | None:
@@ -153,11 +167,16 @@ def program_path() -> Path:
     proved one or only the unproved one is up to date. Outside the repository it is `road_lab` on the PATH. If there is no
     program at all, it is the path that the proved one would have.
     """
-    given = os.environ.get("ROAD_LAB")
-    path = Path(given) if given else choose_program()
+    path = find_program()
     if path.exists():
         print_standing_once(path)
     return path
+
+
+def find_program() -> Path:
+    """Return the path of the program, as `program_path` does, without a note."""
+    given = os.environ.get("ROAD_LAB")
+    return Path(given) if given else choose_program()
 
 
 def choose_program() -> Path:

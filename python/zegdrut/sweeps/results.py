@@ -123,25 +123,25 @@ class Results:
             self.close()
             raise
 
-    def take(self, path: Path | str) -> int:
-        """Add the rows of another file that are missing here. Return their number. Fault: it has different columns."""
-        columns, rows = parse_table(Path(path).read_bytes(), path)
-        fresh = [row for row in rows if self._key(row) not in self.rows]
-        if not columns:
-            return 0
-        had = bool(self.columns)
-        self._note(columns, fresh, path)
-        for line in ([] if had else [columns]) + fresh:
-            self._append(format_row(line))
-        return len(fresh)
+    def take(self, paths: Iterable[Path]) -> None:
+        """Add the rows of other files that are missing here. Fault: a file has different columns; then no row is added."""
+        tables = [(path, *parse_table(path.read_bytes(), path)) for path in paths]
+        for path, columns, _ in tables:
+            self._check_columns(columns, path, next((found for _, found, _ in tables if found), []))
+        for path, columns, rows in tables:
+            fresh = [row for row in rows if self._key(row) not in self.rows]
+            for line in ([] if self.columns or not columns else [columns]) + fresh:
+                self._append(format_row(line))
+            self._note(columns, fresh, path)
+
+    def _check_columns(self, columns: list[str], path: Path | str, others: list[str]) -> None:
+        wanted = self.columns or others
+        if columns and (columns[:len(self._keys)] != self._keys or wanted not in ([], columns)):
+            raise Fault(f"{path} has the columns {' '.join(columns)}, not {' '.join(wanted or [*self._keys, '..'])}: name a different file")
 
     def _note(self, columns: list[str], rows: list[list[str]], path: Path | str) -> None:
-        if not columns:
-            return
-        if columns[:len(self._keys)] != self._keys or self.columns not in ([], columns):
-            wanted = self.columns or [*self._keys, ".."]
-            raise Fault(f"{path} has the columns {' '.join(columns)}, not {' '.join(wanted)}: name a different file")
-        self.columns = columns
+        self._check_columns(columns, path, [])
+        self.columns = columns or self.columns
         self.rows.update((self._key(row), row) for row in rows)
 
     def _key(self, row: Sequence[str]) -> tuple[str, ...]:

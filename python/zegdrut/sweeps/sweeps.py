@@ -13,8 +13,6 @@
 from __future__ import annotations
 
 import dataclasses
-import hashlib
-import inspect
 import itertools
 import time
 from dataclasses import dataclass
@@ -26,8 +24,9 @@ from ..program.errors import Fault
 from ..program.lab import RoadLab
 from ..program.plan import Plan
 from ..program.programs import program_path
+from .marks import Mark, OtherMark, Unknown, make_mark
 from .pool import run_in_parallel
-from .results import Results, Row, format_row, to_plain, replace_file, format_cell
+from .results import Results, Row, format_row, parse_table, to_plain, replace_file, format_cell
 
 Model = Callable[..., Any]
 """A function of a point's parameters, by name. It returns a `Plan`, or figures by name. Without `measure` it also gets the seed, as
@@ -137,7 +136,7 @@ def list_points(points: Points) -> list[Row]:
 
 def sweep(model: Model, points: Points, seeds: Iterable[int] = (1,), *, measure: Measure | None = None, out: Path | str | None = None,
           jobs: int | None = None, part: tuple[int, int] = (1, 1), take: Iterable[Path | str] = (),
-          progress: Progress | None = None) -> Sweep:
+          version: str | None = None, progress: Progress | None = None) -> Sweep:
     """Run a model for each point and each seed, in `jobs` processes, by default one per processor.
 
     With `measure`, `model(**point)` returns a `Plan`, whose seed is replaced, and `measure(lab)` returns the figures of its road.
@@ -156,19 +155,20 @@ def sweep(model: Model, points: Points, seeds: Iterable[int] = (1,), *, measure:
     if jobs is not None and jobs < 1:
         raise Fault(f"jobs must be 1 or more, not {jobs}")
     names = list(listed[0])
-    mark = make_mark(model, measure)
+    mark, parts = find_mark(model, measure, version, out), [Path(path) for path in take]
     runs = [(point, seed) for point in listed for seed in drawn]
-    keys = [[*map(format_cell, point.values()), str(seed), mark] for point, seed in runs]
+    keys = [[*map(format_cell, point.values()), str(seed), mark.text] for point, seed in runs]
     if len({tuple(key) for key in keys}) < len(keys):
         raise Fault("a point or a seed appears twice: remove one")
     mine = range(part[0] - 1, len(runs), part[1])
+    for path in parts:
+        check_marks(parse_table(path.read_bytes(), path)[1], len(names) + 1, mark, path)
     results = Results(out, [*names, "seed", "model"])
     failures: dict[int, Failure] = {}
     program_path()  # (prints the note about the program once)
     try:
-        for path in take:
-            results.take(path)
-        check_marks(results, len(names) + 1, mark)
+        check_marks(results.rows.values(), len(names) + 1, mark, out or "")
+        results.take(parts)
         missing = [number for number in mine if tuple(keys[number]) not in results.rows]
         begin, ended = time.monotonic(), 0
         for done in run_in_parallel(lambda number: run_point(model, measure, *runs[number]), missing, jobs):
@@ -185,9 +185,19 @@ def sweep(model: Model, points: Points, seeds: Iterable[int] = (1,), *, measure:
             list_failures(Path(out), names, [failures[number] for number in sorted(failures)])
     finally:
         results.close()
-    rows = [{**runs[number][0], "seed": runs[number][1], "model": mark, **figures}
+    rows = [{**runs[number][0], "seed": runs[number][1], "model": mark.text, **figures}
             for number in mine if (figures := results.figures(keys[number])) is not None]
     return Sweep(names, rows, [failures[number] for number in sorted(failures)])
+
+
+def find_mark(model: Model, measure: Measure | None, version: str | None, out: Path | str | None) -> Mark:
+    """Return the mark of a sweep. Without a table, a model that cannot be recognised has one, too. Unknown: `version` is needed."""
+    try:
+        return make_mark(model, measure, version)
+    except Unknown:
+        if out is not None:
+            raise
+        return Mark(f"{getattr(model, '__name__', type(model).__name__)}-unknown", {})
 
 
 def run_point(model: Model, measure: Measure | None, point: Row, seed: int) -> Row:
@@ -216,22 +226,11 @@ def add_result(results: Results, key: Sequence[str], figures: Row) -> str | None
         return f"{type(fault).__name__}: {fault}"
 
 
-def make_mark(model: Model, measure: Measure | None) -> str:
-    """Return the name of the model with a hash of its source text, to distinguish results of different versions."""
-    total = hashlib.sha256()
-    for function in (model, measure):
-        try:
-            total.update(inspect.getsource(function).encode() if inspect.isroutine(function) else repr(function).encode())
-        except (OSError, TypeError):
-            pass  # (its source text is unknown)
-    return f"{getattr(model, '__name__', type(model).__name__)}-{total.hexdigest()[:8]}"
-
-
-def check_marks(results: Results, place: int, mark: str) -> None:
-    """Check that all rows come from this version of the model. Fault: some do not."""
-    other = next((row[place] for row in results.rows.values() if row[place] != mark), None)
+def check_marks(rows: Iterable[Sequence[str]], place: int, mark: Mark, path: Path | str) -> None:
+    """Check that all rows of a table have this mark in their column `place`. OtherMark: some do not."""
+    other = next((row[place] for row in rows if row[place] != mark.text), None)
     if other is not None:
-        raise Fault(f"{results.path or 'a file'} has results of {other}, but the model is now {mark}: name a different file")
+        raise OtherMark(f"{path} has results of {other}, but the model is now {mark.text}: name a different file")
 
 
 def list_failures(out: Path, names: Sequence[str], failures: Sequence[Failure]) -> None:
