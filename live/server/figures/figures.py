@@ -39,7 +39,6 @@ RUNNING = asyncio.Semaphore(1)
 WAITING_SEATS: list[int] = []  # seats for which a road is being simulated for figures or files, or will be
 MOST_WAITING_SEATS = 8
 NICE = 5  # the priority: below editing, above what takes longer
-GUARD = "ROAD_LAB_GUARD"  # names a command for zegdrut, so that road_lab ends with the process that started it
 SIDES = "before", "after"
 STAMP_NUMBER = 64  # the number in the stamps of edits, which no replica has
 ENTRY = 60  # steps: travel times are grouped by the minute in which the cars entered
@@ -142,8 +141,7 @@ class Figures(Beside[FiguresAsked, FiguresTold]):
 
 def environment(path: str) -> dict[str, str]:
     """Return the environment of a program that runs the road_lab at this path with the package zegdrut."""
-    guard = " ".join(command_ending_with_parent([]))
-    return {**os.environ, "ROAD_LAB": path, **({GUARD: guard} if guard else {})}
+    return {**os.environ, "ROAD_LAB": path}
 
 
 def command_at_low_priority(module: str, nice: int = NICE) -> list[str]:
