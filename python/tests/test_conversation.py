@@ -22,7 +22,6 @@ from zegdrut import Ended, LabBroken, LabCancelled, LabError, LabTimeout, NoProg
 FAKE = Path(__file__).with_name("fake_program.py")
 PLAN: dict[str, Any] = {"length": 8}
 ROAD = Plan(length=40, inlets=[(0, 65_536)], zones=[(3, 0)], detectors=[28], words="steady")
-WIDE = Plan(length=8_192, inlets=[(cell, 65_536) for cell in range(0, 8_192, 512)], zones=[(5, 16_384)])
 LONG = 180.0  # seconds: enough even on a busy machine
 
 
@@ -153,27 +152,38 @@ class Endings(unittest.TestCase):
 
     def test_a_timeout_of_a_call_with_many_commands(self) -> None:
         """Advance by many short commands: the timeout holds for the whole call."""
-        with RoadLab(WIDE, timeout=LONG) as lab:
-            lab.timeout = 0.5
-            begin = time.monotonic()
-            with self.assertRaisesRegex(LabTimeout, "no reply within 0.5 s"):
-                lab.advance("A", 1_000_000, 10)
-            self.assertLess(time.monotonic() - begin, LONG / 6)
+        pieces: list[int] = []
+
+        def wait(done: int, _: int) -> None:
+            pieces.append(done)
+            self.assertLess(len(pieces), 40, "the timeout holds for each command alone")
+            time.sleep(0.25)
+        with RoadLab(ROAD, timeout=LONG) as lab:
+            lab.timeout = 3
+            with self.assertRaisesRegex(LabTimeout, "no reply within 3 s"):
+                lab.advance("A", 1_000_000, 10, wait)
             lab.timeout = LONG
             reached = lab.advance("A", 0)
-            self.assertLess(reached, 1_000_000)
             self.assertEqual(lab.advance("A", reached + 10), reached + 10)
 
     def test_a_call_that_is_cancelled(self) -> None:
         """Cancel a call from another thread, during a command and between two: it raises `LabCancelled`, and the lab goes on."""
-        with RoadLab(WIDE, timeout=LONG) as lab:
-            for turn in range(10):
-                threading.Timer(0.05 + 0.01 * turn, lab.cancel).start()
-                begin = time.monotonic()
-                with self.assertRaisesRegex(LabCancelled, "the call was cancelled: the program continues"):
-                    lab.advance("A", 1_000_000, 10, lambda *_: time.sleep(0.01))
-                self.assertLess(time.monotonic() - begin, LONG / 6)
-            self.assertEqual(len(lab.cells("A", 0)), 8_192)
+        pieces: list[int] = []
+        with RoadLab(ROAD, timeout=LONG) as lab:
+            def wait(done: int, _: int) -> None:
+                pieces.append(done)
+                self.assertLess(len(pieces), 5, "the call was not cancelled")
+                lab.cancel()
+            with self.assertRaisesRegex(LabCancelled, "the call was cancelled: the program continues"):
+                lab.advance("A", 1_000_000, 10, wait)
+            self.assertEqual(len(lab.cells("A", 0)), 40)
+        with fake() as lab:
+            threading.Timer(0.2, lab.cancel).start()
+            begin = time.monotonic()
+            with self.assertRaises(LabCancelled):
+                lab.ask(echo("cancelled", late=2))
+            self.assertLess(time.monotonic() - begin, 2)
+            self.assertEqual(lab.ask(echo("next")), {"echo": "next"})
 
     def test_interrupts_of_close(self) -> None:
         """Interrupt `close` at rising times, and repeat it: no process and no thread stays, and the lab does not reply."""
