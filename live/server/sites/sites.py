@@ -19,14 +19,14 @@ from typing import TYPE_CHECKING, Callable, Deque, Iterator, Mapping, NamedTuple
 
 from ..background.supervised import supervise
 from ..journal.journal import to_json
-from ..journal.keeper import SHARED, Times
+from ..journal.keeper import SHARED
 from ..journal.lab import FutureStamp, Lab
 from ..journal.state import SITE_FORM, State
-from ..model.operations import Json, Operation
+from ..model.operations import Json, Operation, Unreadable
 from ..model.projection import Edits
-from ..model.reading import Malformed, read_operation
+from ..model.reading import LONGEST_NOTE, Malformed, clean_text
 from ..model.road import Road
-from ..tabs.asked import LONGEST_NAME, LONGEST_NOTE, clean_text
+from ..roads.program import Times
 from ..tabs.refusals import Refused
 from .brokers import broker_of, connack_string, new_client
 from .floods import FLOOD, STRANGERS, UNSEALED, Floods, drop_oldest
@@ -238,7 +238,7 @@ class Sites:
 
     def _unreturned(self) -> list[Operation]:
         """Return the operations that are on the disk and that the broker has not returned."""
-        return [one for one in self._keeper.state.unsent if self._keeper.is_confirmed(one)]
+        return [one for one in self._keeper.state.unsent if self._keeper.is_confirmed(one) and not isinstance(one, Unreadable)]
 
     def send_shared(self) -> None:
         """Send what was shared at this site."""
@@ -348,20 +348,13 @@ class Sites:
         began = time.perf_counter()
         for one in written:
             try:
-                good.append(self._read(one))
+                good.append(self._lab.read(one))
             except (Malformed, Refused) as fault:
                 self._say(f"An operation of a message was ignored: {fault.why if isinstance(fault, Refused) else fault}")
             if time.perf_counter() > began + READ_FOR:
                 await asyncio.sleep(0)
                 began = time.perf_counter()
         return good
-
-    def _read(self, written: Json) -> Operation:
-        one = read_operation(written)
-        if any(clean_text(text, most) != text for text, most in ((one.about.who, LONGEST_NAME), (one.about.note, LONGEST_NOTE))):
-            raise Malformed("`who` and `note` must each fit in a line, without control characters")
-        self._lab.check(one)
-        return one
 
     def _keep_early(self, one: Operation) -> None:
         """Let an early operation wait, once, however often it comes. If too many wait, drop the oldest; they will be sent again."""

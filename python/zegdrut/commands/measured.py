@@ -12,7 +12,7 @@ header, which need --stations TABLE.csv with station, km or miles, and lanes. Mi
 With --write-road FILE it only writes the road with the measured demand to a file, which freeway, metering and report can read. With
 --demand road it simulates the demand of ROAD.json, such as that of a calibrated road.
 
-It writes the tables hours-, speeds- and intervals-NAME-0630-0930.csv, and the pictures comparison- and space-time-NAME-0630-0930.svg.
+It writes the tables hours-, speeds-, congestion- and intervals-NAME-0630-0930.csv, and the pictures comparison- and space-time-NAME-0630-0930.svg.
 """
 from __future__ import annotations
 
@@ -26,6 +26,8 @@ from typing import Optional, Sequence, cast
 from ..figures.intervals import FEW_DAYS, warn_few_days
 from ..measurements.comparison import (Day, Hour, Model, compare_hours, compare_speeds, list_left_out, make_model, make_interval_records, compute_total_rmse, compute_share_below,
                           simulate_day, simulate_days, with_measured_demand, with_stations)
+from ..measurements.congestion import (CONGESTED, JudgedDay, compare_time_lost, describe_jams, judge, list_segments,
+                                       simulate_segments)
 from ..measurements.measured import Measured, put_on_road
 from ..measurements.stations import HEADERS, Counts, read_counts, read_stations
 from ..program.bars import Bar
@@ -50,6 +52,7 @@ def read_arguments(words: Sequence[str] | None) -> argparse.Namespace:
     parser = argparse.ArgumentParser("zegdrut measured", description=__doc__, formatter_class=argparse.RawDescriptionHelpFormatter)
     add_data_arguments(parser)
     add_demand_argument(parser)
+    add_congestion_argument(parser)
     parser.add_argument("--days", type=int, default=DAYS, metavar="N", help="number of days, each with a seed (default: %(default)s)")
     parser.add_argument("--write-road", type=Path, metavar="FILE", help="write the road with the measured demand, and simulate nothing")
     return parser.parse_args(words)
@@ -67,6 +70,18 @@ def add_demand_argument(parser: argparse.ArgumentParser) -> None:
     """Add the option that chooses the demand of the road."""
     parser.add_argument("--demand", choices=("counts", "road"), default="counts", help="simulate the demand of the counts, or that of "
                         "ROAD.json, such as of a calibrated road (default: %(default)s)")
+
+
+def add_congestion_argument(parser: argparse.ArgumentParser) -> None:
+    """Add the option that says when traffic is congested."""
+    parser.add_argument("--congested", type=float, default=CONGESTED, metavar="SHARE", help="traffic is congested below this share of a "
+                        "station's free speed (default: %(default)s)")
+
+
+def check_congested(share: float) -> None:
+    """Check the share of --congested. Fault: it is out of range."""
+    if not 0.1 <= share <= 0.95:
+        raise Fault(f"--congested must be 0.1 to 0.95 of the free speed, not {share:g}")
 
 
 def add_count_options(parser: argparse.ArgumentParser) -> None:
@@ -163,6 +178,36 @@ def format_speeds(model: Model, days: Sequence[Day]) -> list[str]:
     return format_csv([*rows, ["all", "", str(sum(one.intervals for one in errors)), format_number(compute_total_rmse(errors)), ""]])
 
 
+class Congestion:
+    """The congestion of a road, compared with the measured one, as a table and as sentences."""
+
+    def __init__(self, model: Model, days: Sequence[JudgedDay], share: float) -> None:
+        """Judge the days of a model. Traffic is congested below a share of the free speed."""
+        self._measured, self._share = model.measured, share
+        self._found = judge(model.measured, days, share)
+        self._lost = compare_time_lost(list_segments(model), days, share)
+
+    def format_table(self) -> list[str]:
+        """Return the table of station intervals, speeds, delay and travel times."""
+        rows = ["figure,unit,value,±".split(",")]
+        names = ("congested in both", "congested only measured", "congested only simulated", "congested in neither")
+        rows += [[name, "station intervals", str(count), ""] for name, count in zip(names, self._found.count())]
+        for what, off in (("measured congestion", self._found.congested), ("measured free traffic", self._found.free)):
+            rows += [[f"RMSE of speed in {what}", "km/h", format_number(off.rmse), ""],
+                     [f"simulated minus measured speed in {what}", "km/h", format_number(off.bias), ""]]
+        if self._lost is not None:
+            for name, unit, both in (("delay of congested traffic", "vehicle hours per lane", self._lost.delay),
+                                     ("mean travel time", "s", self._lost.mean_time), ("longest travel time", "s", self._lost.longest_time)):
+                if both is not None:
+                    rows += [[f"{name}, measured", unit, format_number(both.measured), ""],
+                             [f"{name}, simulated", unit, format_number(both.simulated), format_number(both.half)]]
+        return format_csv(rows)
+
+    def describe(self) -> list[str]:
+        """Return what congestion means here, and a verdict on each jam."""
+        return [f"congested: below {self._share:g} of the free speed of the station", *describe_jams(self._found, self._measured)]
+
+
 def format_records(records: Sequence[Record]) -> list[str]:
     """Return records as the lines of a CSV file."""
     names = list(records[0])
@@ -230,6 +275,7 @@ def draw_space_time(model: Model) -> str:
 def compare(given: argparse.Namespace, out: Path) -> None:
     """Read the data, simulate, compare, and write the results."""
     check_days(given.days, 1)
+    check_congested(given.congested)
     figures, measured = read_data(given)
     folder = given.out or out / given.road.stem
     if given.write_road is None:
@@ -247,16 +293,18 @@ def compare(given: argparse.Namespace, out: Path) -> None:
     print_lines(model.road.notes)
     report_progress(f"simulating {count_things(given.days, 'day')}")
     bar = Bar("days", in_log=True)
-    days = simulate_days(model, given.days, bar.show)
+    judged = simulate_segments(model, list_segments(model), given.days, bar.show)
     bar.end()
+    days = [one.passed for one in judged]
     hours = compare_hours(measured, days)
-    tables = {"hours": format_hours(model, hours), "speeds": format_speeds(model, days)}
+    congestion = Congestion(model, judged, given.congested)
+    tables = {"hours": format_hours(model, hours), "speeds": format_speeds(model, days), "congestion": congestion.format_table()}
     for name, lines in tables.items():
         write_table(folder, name, model, lines)
         print(f"\n{make_title(model)}\n" + "\n".join(lines))
     write_table(folder, "intervals", model, format_records(make_interval_records(model, days)))
     print()
-    print_lines(format_shares(measured, hours))
+    print_lines([*format_shares(measured, hours), *congestion.describe()])
     window = format_window(model)
     (folder / f"comparison-{model.name}-{window}.svg").write_text(draw_comparison(model, days), encoding="utf-8")
     (folder / f"space-time-{model.name}-{window}.svg").write_text(draw_space_time(model), encoding="utf-8")
