@@ -92,7 +92,8 @@ def read_request(given: argparse.Namespace) -> Request:
     check_days(given.days, 1)
     check_congested(given.congested)
     if given.counts is None:
-        used = [f"--{name}" for name in ("stations", "origin", "reverse", "column", "unit") if getattr(given, name) not in (None, False, [])]
+        used = [f"--{name.replace('_', '-')}" for name in ("stations", "origin", "reverse", "leave_out", "scale", "no_ramp_check", "column", "unit")
+                if getattr(given, name) not in (None, False, [])]
         used += ["--demand"] if given.demand != "counts" else []
         if used:
             raise Fault(f"{used[0]} has no effect without counts: add --counts CSV, or leave it out")
