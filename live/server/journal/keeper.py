@@ -201,10 +201,13 @@ class Keeper:
 
     @property
     def trouble(self) -> str | None:
-        """Return a sentence that says what is wrong with the disk; None if nothing is."""
+        """Return a sentence that says what is wrong with the disk or the journal; None if nothing is."""
         if self._trouble is None and self._is_stalled:
             return (f"the disk has not answered for {STALLS:g} seconds: new changes are pending until it does; confirmed changes "
                     f"can still be viewed")
+        if self._trouble is None and self.state.unreadable:
+            return (f"{len(self.state.unreadable)} changes in the journal cannot be read ({self.state.unreadable[0].why}): they are kept, "
+                    f"but have no effect")
         return self._trouble
 
     async def _watch_disk(self) -> None:

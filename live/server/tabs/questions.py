@@ -24,7 +24,7 @@ from ..journal.timing import STEPS_AHEAD
 from ..model.changes import all_lines, find_altered_lines
 from ..model.choices import sendable
 from ..model.demands import asked_demands
-from ..model.operations import Json, Operation, Stamp
+from ..model.operations import Json, Operation, Stamp, Unreadable
 from ..model.projection import Edits
 from ..model.road import Road
 from ..roads import rows
@@ -232,7 +232,7 @@ class Questions:
             shared, texts, size = self._keeper.state.shared.places, list[str](), 0
             after, more, began = replica.size, False, time.perf_counter()
             for one, place in [*replica.places.items()]:
-                if place < first:
+                if place < first or isinstance(one, Unreadable):
                     continue
                 if time.perf_counter() > began + LINES_FOR:
                     await asyncio.sleep(0)

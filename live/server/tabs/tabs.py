@@ -26,10 +26,11 @@ from ..journal.lab import Lab
 from ..journal.state import TAB_FORM
 from ..journal.timing import STEPS_AHEAD
 from ..model.operations import Json
+from ..model.reading import LONGEST_NAME
 from ..roads import plans
 from ..roads.program import Times
 from . import verbs
-from .asked import LONGEST_NAME, MOST_EDITS, CommandFields
+from .asked import MOST_EDITS, CommandFields
 from .questions import MOST_BYTES, MOST_ROWS, Questions, Reply
 from .refusals import Refused, not_a_command
 from .seating import ListedSeat
