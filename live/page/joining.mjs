@@ -50,7 +50,8 @@ function greet() {
   else askName();
 }
 
-/** Join. If that is refused, ask for a name.
+/** Join. If that is refused, ask for a name. The key is dropped only if the seat is gone: a page that is
+ * open over an upgrade returns to its seat, and sends what is pending, once it is reloaded.
  * @param {Wishes} fields
  */
 async function hello(fields) {
@@ -60,7 +61,7 @@ async function hello(fields) {
   store.wishes = null;
   if ("welcome" in said) welcome(said.welcome);
   else {
-    sessionStorage.removeItem("key");
+    if (said.refused === "UnknownKey") sessionStorage.removeItem("key");
     askName(said.why ?? said.refused, said.seats);
   }
 }

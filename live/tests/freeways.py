@@ -12,7 +12,7 @@ from typing import Any, Mapping, Sequence
 
 from crashes import numbers
 from server.tabs.client import Seat
-from server.figures.reports import demand_text
+from server.figures.report import demand_text
 from running import LIVE, PATIENCE, SMALL, Case, Server, end, new_folder, program, started, until
 from zegdrut.roads.clock import Clock
 from zegdrut.program.wire import PlanLine, WrittenEdit

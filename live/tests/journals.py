@@ -348,8 +348,8 @@ class Folders(Case):
         server.kill()
         path = server.folder / "journal.jsonl"
         good = path.read_bytes()
-        beyond = {"seat": 1, "operation": {"stamp": [1, 65], "sets": [[["limit", 2, 1 << 32], 3]]}}
-        for broken in (b"good morning\n", b'{"made":{"seat":99}}\n', b'{"what":{}}\n', line_of({"made": beyond})):
+        beyond = {"seat": 1, "upto": 1 << 41}
+        for broken in (b"good morning\n", b'{"made":{"seat":99}}\n', b'{"what":{}}\n', line_of({"take": beyond})):
             path.write_bytes(good + broken + line_of({"clock": {"rate": 0, "now": 5}}))
             with self.assertRaisesRegex(RuntimeError, r"live/serve: [^\n]*journal\.jsonl, line 2[,:][^\n]*\n\Z"):
                 server.start()

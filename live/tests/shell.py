@@ -10,7 +10,7 @@ import unittest
 from typing import Any
 
 from running import LIVE, PATIENCE, SMALL, Broker, Case, Server, new_folder
-from server.figures.admissions import Curve
+from server.figures.curves import Curve
 from server.journal.records import read_plan_line
 from server.tabs.words import InvalidWords, find_chance, find_state, read_change
 from zegdrut.roads.clock import Clock

@@ -17,14 +17,16 @@ from ..model.choices import find_overruling, sendable, find_undoable, would_chan
 from ..model.demands import kept_demand, written_demand
 from ..model.operations import (About, Json, Operation, RawName, Shape, Stamp, edit, exclude, sort_by_stamp, lift, put, restamp,
                                undo)
+from ..model.reading import Malformed
 from ..model.road import Road, change, repeat, is_standing
+from ..roads.program import Times
 from ..roads.screen import first_step
 from ..tabs.asked import RawEdit
 from ..tabs.lines import Act, Lister
-from ..tabs.refusals import Refused
+from ..tabs.refusals import Refused, not_a_command
 from ..tabs.seating import Seating
 from .checks import Checks
-from .keeper import SHARED, Keeper, Times
+from .keeper import SHARED, Keeper
 from .records import Bound, Came, CameBack, Made, Share, StampedAnew, Take, Works
 from .state import Replica, SeatReplica, State
 from .timing import Timing
@@ -228,7 +230,10 @@ class Lab:
         except ValueError:
             raise Refused("Count", "the change that you want to change is stamped more than a day ahead of the clock: wait until that "
                           "day") from None
-        self.check(one)
+        try:
+            one = self.read(one.written())
+        except Malformed as fault:
+            raise not_a_command(f"no site would take this change: {fault}") from None
         if one.site in seat.road.record.excluded:
             raise Refused("SiteExcluded", "this site is excluded: changes made here have no effect until another site includes it again")
         after = seat.road.adding([one])
@@ -334,7 +339,7 @@ class Lab:
     # What comes from other sites
 
     async def receive(self, operations: list[Operation], title: str, times: Times) -> bool:
-        """Hold operations of another site, which have passed `check`, on the shared road. Return whether any was new. `times` gets the
+        """Hold operations of another site, as `read` returns them, on the shared road. Return whether any was new. `times` gets the
         seconds of `work`."""
         async def make(write: Write) -> int | None:
             shared = self.state.shared
@@ -357,9 +362,9 @@ class Lab:
         self.keeper.listeners.shared.notify(touched)
         return True
 
-    def check(self, one: Operation) -> None:
-        """Raise `Refused` if an operation, of a seat or of another site, is not one that every site takes."""
-        self._checks.check_operation(one)
+    def read(self, written: Json) -> Operation:
+        """Return an operation of a seat or of another site. Raise `Malformed` or `Refused` if it is not one that every site takes."""
+        return self._checks.read(written)
 
     async def bind(self, number: int, folder: str) -> None:
         """Bind a site's number to a folder, in the journal."""

@@ -3,7 +3,6 @@ preview."""
 from __future__ import annotations
 
 import asyncio
-import json
 import time
 from typing import Protocol, Sequence, TypeVar
 
@@ -11,10 +10,10 @@ from zegdrut.program.wire import WrittenEdit
 
 from ..figures.figures import TwoDemands
 from ..journal.journal import to_json
-from ..journal.keeper import Keeper, Times
+from ..journal.keeper import Keeper
 from ..model.road import Road
 from ..tabs.refusals import Refused
-from .program import ProgramExited, Program, command_of, import_lines, start
+from .program import ProgramExited, Program, Times, command_of, import_lines, start
 from .turns import Job, More
 
 SIDES = ("before", "after")
@@ -125,13 +124,7 @@ class Preview:
         """Send lines all at once and return the program's replies; raise the first refusal. To be called in a job."""
         if self._program is None:
             raise ProgramExited(LET_GO)
-        began = time.perf_counter()
-        replies = await self._program.ask_all(lines)
-        times["program"] = times.get("program", 0) + time.perf_counter() - began
-        for line, reply in zip(lines, replies):
-            if reply.startswith(b'{"refused"'):
-                self._keeper.refuse(line, json.loads(reply), self._program)
-        return replies
+        return await self._program.say_all(lines, times)
 
     def run_to(self, side: str, to: int) -> None:
         self._wanted[side] = max(to, self._wanted[side])

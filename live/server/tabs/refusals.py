@@ -30,7 +30,7 @@ MEANINGS = {
     "SiteExcluded": "Changes of this site have no effect until another site includes it again",
     "Stopped": "The request was stopped before the first day was simulated",
     "TooFarAhead": "A replica runs at most 36,000 steps ahead of the clock",
-    "TooLong": "The report took more than 600 seconds: choose a shorter period",
+    "TooLong": "The figures or the report took more than 600 seconds: choose a shorter period",
     "TooManyEdits": "A gesture can have at most 1,200 raw edits",
     "TooManyObjects": "The shapes of one operation can cover at most 600 objects",
     "UnknownKey": "The seat of this key was taken over or freed: choose a seat",

@@ -22,8 +22,10 @@ import sys
 from pathlib import Path
 from typing import Sequence
 
-from ..measurements.calibration import NAMES, Bounds, Calibration, Point, Search, Trial, calibrate, is_congested, make_calibrated
-from ..measurements.comparison import with_measured_demand
+from ..measurements.calibration import NAMES, Bounds, Calibration, Point, Search, Trial, apply_point, calibrate, is_congested, make_calibrated
+from ..measurements.comparison import compare_hours, make_model, with_measured_demand
+from ..measurements.congestion import list_segments, simulate_segments
+from ..measurements.measured import Measured
 from ..program.bars import Bar
 from ..program.errors import Fault, LabError, describe_error
 from ..program.programs import program_path
@@ -32,7 +34,8 @@ from ..reports.pictures import draw_points, stack_drawings
 from ..roads.demand import BeyondCapacity
 from ..roads.freeway import Figures, make_road, measure_chances
 from ..roads.freeway_files import write_road
-from .measured import add_data_arguments, report_progress, read_data, print_lines
+from .measured import (Congestion, add_congestion_argument, add_data_arguments, check_congested, format_shares, print_lines, read_data,
+                       report_progress)
 
 
 NO_CONGESTION = ("no station is congested (more than 10 km/h below its highest speed): these counts cannot determine the slow-to-start "
@@ -70,6 +73,7 @@ def read_arguments(words: Sequence[str] | None) -> argparse.Namespace:
     """Read the command line."""
     parser = argparse.ArgumentParser("zegdrut calibrate", description=__doc__, formatter_class=argparse.RawDescriptionHelpFormatter)
     add_data_arguments(parser)
+    add_congestion_argument(parser)
     parser.add_argument("--bounds", type=Path, metavar="FILE", help="a JSON file with the bounds of slowing, start and factor")
     parser.add_argument("--points", type=int, default=Search.points, metavar="N", help="points per round, 10 or more (default: %(default)s)")
     parser.add_argument("--days", type=int, default=Search.days, metavar="N", help="simulated days per point (default: %(default)s)")
@@ -114,6 +118,7 @@ def run_calibration(given: argparse.Namespace, out: Path) -> None:
     """Read the data, search, and write the results."""
     if given.points < 10 or given.days < 1:
         raise Fault("--points must be 10 or more, and --days 1 or more")
+    check_congested(given.congested)
     bounds = read_bounds(given.bounds)
     figures, measured = read_data(given)
     name, folder = given.road.stem, given.out or out / given.road.stem
@@ -143,7 +148,8 @@ def run_calibration(given: argparse.Namespace, out: Path) -> None:
     write_road(folder / f"calibrated-{name}.json", given.road, calibrated)
     (folder / f"tried-{name}.csv").write_text("".join(f"{line}\n" for line in format_trials(found.tried)), encoding="utf-8")
     (folder / f"surface-{name}.svg").write_text(draw_surface(found), encoding="utf-8")
-    check_admission(calibrated)
+    if check_admission(calibrated):
+        print_lines(["", *compare_calibrated(given, figures, measured, best)])
     more = "".join(f" {word}" for word in list_count_words(given))
     print(f"The calibrated road, the points and the picture are in {folder}. Compare the road with its counts by "
           f"`recipes/measured/run {folder / f'calibrated-{name}.json'} {given.counts}{more} --demand road`", file=sys.stderr)
@@ -154,15 +160,27 @@ def list_count_words(given: argparse.Namespace) -> list[str]:
     words = [f"--stations {given.stations}"] if given.stations else []
     words += [f"--origin {given.origin:g}"] if given.origin is not None else []
     words += ["--reverse"] if given.reverse else []
-    return [*words, *(f"--{name} {shlex.quote(one)}" for name in ("column", "unit") for one in getattr(given, name))]
+    words += ["--no-ramp-check"] if given.no_ramp_check else []
+    return [*words, *(f"--{name.replace('_', '-')} {shlex.quote(one)}" for name in ("leave_out", "scale", "column", "unit")
+                      for one in getattr(given, name))]
 
 
-def check_admission(figures: Figures) -> None:
-    """Print a line if an inlet of the calibrated road does not admit its demand."""
+def check_admission(figures: Figures) -> bool:
+    """Return whether each inlet of the calibrated road admits its demand, and print a line if one does not."""
     try:
         measure_chances(make_road(figures))
     except Fault as fault:
         print_lines([f"the calibrated road would be refused: {fault}"])
+        return False
+    return True
+
+
+def compare_calibrated(given: argparse.Namespace, figures: Figures, measured: Measured, best: Point) -> list[str]:
+    """Simulate the calibrated road over some days. Return its congestion beside the measured one, its GEH and a verdict on each jam."""
+    model = make_model(given.road.stem, apply_point(figures, best), measured, best.factor)
+    days = simulate_segments(model, list_segments(model), given.days)
+    congestion = Congestion(model, days, given.congested)
+    return [*congestion.format_table(), "", *format_shares(measured, compare_hours(measured, [one.passed for one in days])), *congestion.describe()]
 
 
 def main(words: Sequence[str] | None = None, out: Path = Path("out")) -> int:

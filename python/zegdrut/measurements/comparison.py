@@ -4,8 +4,8 @@
     hours = compare_hours(model.measured, days)          # a list of Hour; compute_share_below([hour.geh for hour in hours])
     speeds = compare_speeds(model.measured, days)
 
-GEH = sqrt(2 (M - C)^2 / (M + C)) for M simulated and C measured cars of an *hour*. Five-minute rows are summed first, and an hour with
-a missing row has no GEH. GEH grows with the number of lanes, so each table has it per lane, like all other figures, and for all lanes.
+GEH = sqrt(2 (M - C)^2 / (M + C)) for M simulated and C measured cars of an *hour*. Five-minute rows are summed first. If at least five
+sixths of the rows of an hour are there, both sums are over these rows, and are scaled to the hour; otherwise it has no GEH. GEH grows with the number of lanes, so each table has it per lane, like all other figures, and for all lanes.
 Both speeds are time-mean speeds at a detector.
 """
 from __future__ import annotations
@@ -24,12 +24,14 @@ from ..roads.demand import Effort, Rates, convert_demands, thread_count
 from ..roads.freeway import Figures, Road, make_road, to_rates, warm_up_minutes, widen_inlet, with_warm_up
 from ..roads.road_scripts import Chances, make_commands, make_plan, make_base_edits
 from ..roads.units import HOUR, KMH, count_things, to_km
-from .measured import Measured
+from .measured import Measured, Series
 
 MOST_AT_INLET = 1_780.0
 """The largest demand of an inlet in cars per hour and lane. The cars above it enter in the following minutes."""
 NOT_WHOLE, NO_COUNT = "no whole hour", "no count"
 """Reasons for which a station hour is left out."""
+ENOUGH = 5 / 6
+"""The share of the intervals of an hour that must be counted: then flows are scaled to the hour."""
 GOOD = 5.0
 """Guidelines require a GEH below this in 85 % of the cases."""
 SAME_PLACE = 0.1
@@ -190,7 +192,8 @@ def simulate_days(model: Model, days: int, progress: Callable[[int, int], None] 
 # Hours
 
 class Hour(NamedTuple):
-    """A station and an hour: measured and simulated flow in cars per hour and lane (mean over the days, half its 95 % interval), and GEH."""
+    """A station and an hour: measured and simulated flow in cars per hour and lane (mean over the days, half its 95 % interval), GEH, and
+    the number of intervals that the station counted. Both flows are of these intervals."""
 
     station: str
     km: float
@@ -200,6 +203,12 @@ class Hour(NamedTuple):
     half: float | None
     geh: float
     geh_all_lanes: float
+    intervals: int
+
+
+def find_counted(series: Series, begin: int, an_hour: int) -> list[int]:
+    """Return the intervals of an hour that a station counted."""
+    return [place for place in range(begin, min(begin + an_hour, len(series.cars))) if series.cars[place] is not None]
 
 
 def compute_geh(simulated: float, measured: float) -> float:
@@ -208,20 +217,21 @@ def compute_geh(simulated: float, measured: float) -> float:
 
 
 def compare_hours(measured: Measured, days: Sequence[Day]) -> list[Hour]:
-    """Compare each station and whole hour of the window in which no interval is missing."""
+    """Compare each station and hour of the window in which enough intervals were counted."""
     found = []
     an_hour = HOUR // measured.interval
     for index, series in enumerate(measured.main[1:]):
-        for begin in range(0, measured.intervals - an_hour + 1, an_hour):
-            counted = series.cars[begin:begin + an_hour]
-            if any(one is None for one in counted):
+        for begin in range(0, measured.intervals, an_hour):
+            places = find_counted(series, begin, an_hour)
+            if len(places) < ENOUGH * an_hour:
                 continue
-            wanted = math.fsum(one or 0.0 for one in counted)
-            flows = [float(sum(one.cars for one in day[index][begin:begin + an_hour])) for day in days]
+            scale = an_hour / len(places)
+            wanted = scale * math.fsum(series.cars[place] or 0.0 for place in places)
+            flows = [scale * sum(day[index][place].cars for place in places) for day in days]
             mean = estimate_days(flows)
             lanes = series.station.lanes
             found.append(Hour(series.station.name, series.station.km, begin * measured.interval, wanted, mean[0], mean[1],
-                              compute_geh(mean[0], wanted), compute_geh(mean[0] * lanes, wanted * lanes)))
+                              compute_geh(mean[0], wanted), compute_geh(mean[0] * lanes, wanted * lanes), len(places)))
     return found
 
 
@@ -239,11 +249,10 @@ def list_left_out(measured: Measured) -> list[LeftOut]:
     an_hour = HOUR // measured.interval
     for series in measured.main[1:]:
         for begin in range(0, measured.intervals, an_hour):
-            counted = series.cars[begin:begin + an_hour]
-            missing = sum(one is None for one in counted)
-            reason = (NOT_WHOLE if len(counted) < an_hour else "" if not missing else NO_COUNT if missing == an_hour
-                      else f"{missing} of {count_things(an_hour, 'row')} missing")
-            if reason:
+            number = len(find_counted(series, begin, an_hour))
+            if number < ENOUGH * an_hour:
+                reason = (NOT_WHOLE if begin + an_hour > measured.intervals else NO_COUNT if not number
+                          else f"{an_hour - number} of {count_things(an_hour, 'row')} missing")
                 found.append(LeftOut(series.station.name, begin * measured.interval, reason))
     return found
 
