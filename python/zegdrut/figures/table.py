@@ -98,7 +98,8 @@ def list_figures(plan: PlanLine, units: Units = FREEWAY) -> list[Figure]:
         *(make_travel_figure(inlet, None, f"travel time from {start} to the end") for inlet, start in starts.items()),
         *(figure for detector, place in enumerate(places) for figure in (
             *list_count_figures(detector, place),
-            *(make_travel_figure(inlet, detector, f"{place}: travel time from {start}") for inlet, start in starts.items())))]
+            *(make_travel_figure(inlet, detector, f"{place}: travel time from {start}") for inlet, start in starts.items()
+              if plan["inlets"][inlet][0] < plan["detectors"][detector])))]
 
 
 def sort_inlets(plan: PlanLine) -> list[int]:

@@ -12,18 +12,19 @@ from __future__ import annotations
 
 import dataclasses
 import math
-from concurrent.futures import ThreadPoolExecutor
 from dataclasses import dataclass
 from typing import Any, Callable, NamedTuple, Sequence
 
 from ..figures.intervals import Estimate, average_known, estimate_mean
+from ..figures.simulation import read_counts, simulate_days as run_days, split_window
+from ..figures.trips import DetectorCount, Window
 from ..program.errors import Fault
 from ..program.lab import RoadLab
 from ..program.wire import Record
-from ..roads.demand import Effort, Rates, convert_demands, thread_count
+from ..roads.demand import Effort, Rates, convert_demands
 from ..roads.freeway import Figures, Road, make_road, to_rates, warm_up_minutes, widen_inlet, with_warm_up
 from ..roads.road_scripts import Chances, make_commands, make_plan, make_base_edits
-from ..roads.units import HOUR, KMH, count_things, to_km
+from ..roads.units import HOUR, count_things, to_km
 from .measured import Measured, Series
 
 MOST_AT_INLET = 1_780.0
@@ -38,14 +39,7 @@ SAME_PLACE = 0.1
 """The distance in km within which a ramp of the road's file and a ramp station are the same ramp."""
 
 
-class Passed(NamedTuple):
-    """The cars that passed a detector in an interval, and the sum of their speeds in cells per step."""
-
-    cars: int
-    speeds: int
-
-
-Day = list[list[Passed]]
+Day = list[list[DetectorCount]]
 """What passed each compared station in each interval."""
 
 
@@ -163,15 +157,9 @@ def simulate_day(model: Model, seed: int, with_rows: bool = False, with_entries:
         for line in edits:
             lab.ask(line)
         lab.command("advance", "A", to=model.warm + model.window_steps)
-        day: Day = []
-        for detector in model.detectors:
-            passed = []
-            for place in range(model.measured.intervals):
-                first = model.warm + place * model.measured.interval
-                found = lab.count("A", detector, first, first + model.measured.interval)
-                passed.append(Passed(found.cars, found.speeds))
-            day.append(passed)
-        rows = lab.diagram("A", model.warm, model.warm + model.window_steps - 1) if with_rows else []
+        window = Window(model.warm, model.warm + model.window_steps)
+        day = read_counts(lab, "A", model.detectors, split_window(window, model.measured.interval))
+        rows = lab.diagram("A", window.first, window.last - 1) if with_rows else []
         admitted = 0
         for sign, detector in model.gates if with_entries else ():
             admitted += sign * lab.count("A", detector, 0, model.road.steps).cars
@@ -180,13 +168,7 @@ def simulate_day(model: Model, seed: int, with_rows: bool = False, with_entries:
 
 def simulate_days(model: Model, days: int, progress: Callable[[int, int], None] | None = None) -> list[Day]:
     """Simulate days in parallel: the seed of the road, and the ones after it."""
-    found: list[Day] = []
-    with ThreadPoolExecutor(thread_count()) as pool:
-        for day, _, _ in pool.map(lambda seed: simulate_day(model, seed), range(model.seed, model.seed + days)):
-            found.append(day)
-            if progress:
-                progress(len(found), days)
-    return found
+    return run_days(lambda seed: simulate_day(model, seed)[0], range(model.seed, model.seed + days), progress)
 
 
 # Hours
@@ -285,8 +267,7 @@ class SpeedError(NamedTuple):
 
 def compute_speed(days: Sequence[Day], index: int, place: int) -> float | None:
     """Return the mean of the days' time-mean speeds of an interval in km/h, over the days with a car then, or None without a car."""
-    passed = [day[index][place] for day in days]
-    return average_known([one.speeds / one.cars * KMH if one.cars else None for one in passed])
+    return average_known([day[index][place].time_mean_speed for day in days])
 
 
 def compare_speeds(measured: Measured, days: Sequence[Day]) -> list[SpeedError]:

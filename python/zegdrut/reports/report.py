@@ -11,7 +11,7 @@ from typing import Callable, Sequence
 
 from ..figures.intervals import average_known
 from ..figures.simulation import RoadRun, read_run, simulate_days, split_window
-from ..figures.table import FigureRow, average_days, choose, compare, list_figures, measure_day, sort_inlets
+from ..figures.table import FigureRow, average_days, compare, list_figures, measure_day
 from ..figures.trips import Window
 from ..program.lab import RoadLab
 from ..program.scripts import Script
@@ -51,10 +51,8 @@ def run_sides(sides: Sequence[Side], seeds: Sequence[int | str], window: Window,
 # The table
 
 def make_table(sides: Sequence[Side], days: Sequence[Sequence[RoadRun]], window: Window) -> list[FigureRow]:
-    """Return the figures over all days. Travel times are those from the main road's inlet."""
-    plan = sides[0].script.plan
-    figures = [figure for figure in choose(list_figures(plan), *KEYS, inlet=next(iter(sort_inlets(plan)), None))
-               if figure.of_change is None or len(sides) == 2]
+    """Return the figures over all days."""
+    figures = [figure for figure in list_figures(sides[0].script.plan) if figure.key in KEYS and (figure.of_change is None or len(sides) == 2)]
     return compare(figures, [measure_day(figures, *runs) for runs in days])
 
 
