@@ -89,6 +89,7 @@ import {HOUR} from "./units.mjs";
  * @property {Listed[]} changes        what the lists show
  * @property {News & {text: string}} news    what others shared and is not taken
  * @property {Map<string, Pending>} pending  by key: sent again after a break
+ * @property {Map<string, Area>} waiting     demands that wait until their inlet is measured
  * @property {boolean} isPersisted     the tab's storage has what is pending
  * @property {Press[]} undoPresses     of Undo and Redo, until it is known what they undo or redo
  * @property {Map<string, string>} notes     of this tab's operations, by stamps
@@ -163,7 +164,7 @@ export const store = {
   layers: {}, refreshes: new Map(), curves: new Map(),
 
   changes: [], news: {size: 0, shares: [], from: [], text: ""}, pending: new Map(),
-  isPersisted: true, undoPresses: [], notes: new Map(), passedOver: "", preview: null,
+  waiting: new Map(), isPersisted: true, undoPresses: [], notes: new Map(), passedOver: "", preview: null,
   outcome: null, days: null, timings: [],
 
   tool: "look", changeInForm: null, formOfChange: {}, hasLetters: true,

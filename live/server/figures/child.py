@@ -24,7 +24,6 @@ from ..roads.program import LONGEST_REPLY, command_ending_with_parent
 from ..tabs.refusals import Refused
 
 PATIENCE = 600.0  # seconds that a question may take
-GUARD = "ROAD_LAB_GUARD"  # names a command for zegdrut, so that road_lab ends with the process that started it
 RUNNING = asyncio.Semaphore(1)
 WAITING_SEATS: list[int] = []  # seats for which a road is being simulated for figures or files, or will be
 MOST_WAITING_SEATS = 8
@@ -89,11 +88,10 @@ class Child(Generic[Q, A]):
         if self._process is None or self._process.returncode is not None or path != self._path:
             self.close()
             closed, self._path = self._closed, path
-            guard = " ".join(command_ending_with_parent([]))
             process = await asyncio.create_subprocess_exec(
                 *command_ending_with_parent(["nice", "-n", str(self._nice), sys.executable, "-m", self._module]),
                 stdin=asyncio.subprocess.PIPE, stdout=asyncio.subprocess.PIPE, start_new_session=True, cwd=LIVE, limit=LONGEST_REPLY,
-                env={**os.environ, "ROAD_LAB": path, **({GUARD: guard} if guard else {})})
+                env={**os.environ, "ROAD_LAB": path})
             if closed != self._closed:  # it was closed meanwhile
                 end(process)
             self._process = process

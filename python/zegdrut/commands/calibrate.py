@@ -160,7 +160,9 @@ def list_count_words(given: argparse.Namespace) -> list[str]:
     words = [f"--stations {given.stations}"] if given.stations else []
     words += [f"--origin {given.origin:g}"] if given.origin is not None else []
     words += ["--reverse"] if given.reverse else []
-    return [*words, *(f"--{name} {shlex.quote(one)}" for name in ("column", "unit") for one in getattr(given, name))]
+    words += ["--no-ramp-check"] if given.no_ramp_check else []
+    return [*words, *(f"--{name.replace('_', '-')} {shlex.quote(one)}" for name in ("leave_out", "scale", "column", "unit")
+                      for one in getattr(given, name))]
 
 
 def check_admission(figures: Figures) -> bool:

@@ -29,7 +29,7 @@ from ..measurements.comparison import (Day, Hour, Model, compare_hours, compare_
 from ..measurements.congestion import (CONGESTED, JudgedDay, compare_time_lost, describe_jams, judge, list_segments,
                                        simulate_segments)
 from ..measurements.measured import Measured, put_on_road
-from ..measurements.stations import HEADERS, Counts, read_counts, read_stations
+from ..measurements.stations import HEADERS, Counts, correct_counts, read_counts, read_stations
 from ..program.bars import Bar
 from ..program.errors import Fault, LabError, describe_error
 from ..program.wire import Record
@@ -89,6 +89,10 @@ def add_count_options(parser: argparse.ArgumentParser) -> None:
     parser.add_argument("--stations", type=Path, metavar="TABLE.csv", help="table with station, km or miles, and lanes")
     parser.add_argument("--origin", type=float, metavar="KM", help="km of the table that is km 0 of the road (default: 0, or the first station if the table has miles)")
     parser.add_argument("--reverse", action="store_true", help="the km of the table decrease in the direction of travel")
+    parser.add_argument("--leave-out", action="append", default=[], metavar="STATION", help="do not use this station")
+    parser.add_argument("--scale", action="append", default=[], metavar="STATION=FACTOR", help="multiply the counts of a station that counts "
+                        "too many or too few, such as 103=0.926")
+    parser.add_argument("--no-ramp-check", action="store_true", help="compare also the stations after a fall of the flow, as at an off-ramp")
     parser.add_argument("--column", action="append", default=[], metavar="QUANTITY=COLUMN", help="title of the column of a quantity, such as speed=v_mean")
     parser.add_argument("--unit", action="append", default=[], metavar="speed=UNIT", help="unit of the speeds: km/h, mph or m/s")
 
@@ -104,6 +108,18 @@ def read_pairs(given: list[str], word: str, example: str, known: Sequence[str]) 
     return found
 
 
+def read_factors(given: list[str]) -> dict[str, float]:
+    """Read arguments such as 103=0.926 into a dictionary. Fault: one has no factor."""
+    found = {}
+    for one in given:
+        name, sign, text = one.rpartition("=")
+        try:
+            found[name] = float(text if sign else "")
+        except ValueError:
+            raise Fault(f"--scale must be STATION=FACTOR, such as 103=0.926, not {one}") from None
+    return found
+
+
 def read_data(given: argparse.Namespace) -> tuple[Figures, Measured]:
     """Read the road and its counts, and check that they fit. Fault: one of them is invalid."""
     figures = FIGURES.override(given.road)
@@ -112,8 +128,9 @@ def read_data(given: argparse.Namespace) -> tuple[Figures, Measured]:
     table = read_stations(given.stations) if given.stations else None
     counts = read_counts(given.counts, table, read_pairs(given.column, "column", "speed=v_mean", list(HEADERS)),
                          read_pairs(given.unit, "unit", "speed=mph", ["speed"]))
+    counts = correct_counts(counts, given.leave_out, read_factors(given.scale))
     figures = with_date_of(figures, counts)
-    measured = put_on_road(counts, figures.clock, round(figures.minutes * 60), given.origin, given.reverse)
+    measured = put_on_road(counts, figures.clock, round(figures.minutes * 60), given.origin, given.reverse, not given.no_ramp_check)
     make_road(with_measured_demand(with_stations(figures, measured), measured)[0])
     return figures, measured
 
@@ -161,12 +178,13 @@ def find_places(model: Model) -> dict[str, str]:
 
 def format_hours(model: Model, hours: Sequence[Hour]) -> list[str]:
     """Return the table of stations and hours."""
-    rows = ["station,km,from,to,measured cars/h/lane,simulated cars/h/lane,± cars/h/lane,GEH per lane,lanes,GEH all lanes".split(",")]
+    rows = ["station,km,from,to,measured cars/h/lane,simulated cars/h/lane,± cars/h/lane,GEH per lane,lanes,GEH all lanes,intervals".split(",")]
+    an_hour = HOUR // model.measured.interval
     clock, lanes = model.measured.clock, {one.station.name: one.station.lanes for one in model.measured.main}
     places = find_places(model)
     for one in hours:
         rows.append([one.station, places[one.station], clock.to_text(one.first), clock.to_text(one.first + HOUR), f"{one.measured:.1f}",
-                     f"{one.simulated:.1f}", format_number(one.half), f"{one.geh:.2f}", str(lanes[one.station]), f"{one.geh_all_lanes:.2f}"])
+                     f"{one.simulated:.1f}", format_number(one.half), f"{one.geh:.2f}", str(lanes[one.station]), f"{one.geh_all_lanes:.2f}", f"{one.intervals} of {an_hour}"])
     return format_csv(rows)
 
 
@@ -335,10 +353,13 @@ def format_shares(measured: Measured, hours: Sequence[Hour]) -> list[str]:
     """Return how many station hours are compared, why the others are left out, and the shares with a GEH below 5."""
     left_out = list_left_out(measured)
     found = [f"{len(hours)} of {count_things(len(hours) + len(left_out), 'station hour')} compared"]
+    scaled = sum(one.intervals < HOUR // measured.interval for one in hours)
+    if scaled:
+        found.append(f"{count_things(scaled, 'station hour')} with missing intervals: both flows are of the others, scaled to an hour")
     if left_out:
         found.append("left out: " + "; ".join(f"station {one.station} from {measured.clock.to_text(one.first)} ({one.reason})" for one in left_out))
     if not hours:
-        return [*found, "so there is no GEH: it needs whole hours without a missing row"]
+        return [*found, "so there is no GEH: it needs hours with at least five sixths of their rows"]
     one, every = [hour.geh for hour in hours], [hour.geh_all_lanes for hour in hours]
     return [*found, f"GEH below 5 in {100 * compute_share_below(one):.0f} % of {count_things(len(hours), 'compared station hour')} by the flow per "
             f"lane, and in {100 * compute_share_below(every):.0f} % by the flow of all lanes (guidelines require 85 % of the links)"]

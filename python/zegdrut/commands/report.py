@@ -21,6 +21,8 @@ from pathlib import Path
 from typing import Any, Sequence
 
 from ..figures.intervals import warn_few_days
+from ..figures.simulation import RoadRun
+from ..figures.table import FigureRow
 from ..figures.trips import Window
 from ..measurements.comparison import Model, compare_hours, list_left_out, make_model
 from ..measurements.congestion import list_segments, simulate_segments
@@ -30,7 +32,7 @@ from ..program.errors import Fault, LabError, describe_error
 from ..program.wire import Record
 from ..reports.outputs import format_window, make_title as make_csv_title, prepare_file
 from ..reports.pictures import INLETS, Chart, Line
-from ..reports.report import PERIOD, Row, Side, SideDay, make_flow_series, make_records, make_speed_series, make_table, run_sides
+from ..reports.report import PERIOD, Side, make_flow_series, make_records, make_speed_series, make_table, run_sides
 from ..reports.report_page import Contents, draw_demands, format_page, make_list_html
 from ..roads.demand import BeyondCapacity, find_rate
 from ..roads.freeway import Figures, Road, measure_chances, make_roads, to_rates, warm_up_minutes, widen_inlets, with_warm_up
@@ -90,7 +92,8 @@ def read_request(given: argparse.Namespace) -> Request:
     check_days(given.days, 1)
     check_congested(given.congested)
     if given.counts is None:
-        used = [f"--{name}" for name in ("stations", "origin", "reverse", "column", "unit") if getattr(given, name) not in (None, False, [])]
+        used = [f"--{name.replace('_', '-')}" for name in ("stations", "origin", "reverse", "leave_out", "scale", "no_ramp_check", "column", "unit")
+                if getattr(given, name) not in (None, False, [])]
         used += ["--demand"] if given.demand != "counts" else []
         if used:
             raise Fault(f"{used[0]} has no effect without counts: add --counts CSV, or leave it out")
@@ -221,8 +224,8 @@ def make_counts_html(given: argparse.Namespace, model: Model) -> str:
             + f'<div class="pairs">{"".join(f"<div>{one.draw(470, 175)}</div>" for one in make_comparison_charts(model, days))}</div>')
 
 
-def make_page(given: argparse.Namespace, request: Request, roads: Sequence[Road], sides: Sequence[Side], days: Sequence[Sequence[SideDay]],
-              rows: Sequence[Row], model: Model | None) -> str:
+def make_page(given: argparse.Namespace, request: Request, roads: Sequence[Road], sides: Sequence[Side], days: Sequence[Sequence[RoadRun]],
+              rows: Sequence[FigureRow], model: Model | None) -> str:
     """Return the report as HTML."""
     figures, road, window = request.figures, roads[-1], request.window
     clock = with_warm_up(figures, request.warm).clock
@@ -249,7 +252,7 @@ def write_table(path: Path, title: str, records: Sequence[Record]) -> None:
         writer.writerows(records)
 
 
-def make_series_records(request: Request, sides: Sequence[Side], roads: Sequence[Road], days: Sequence[Sequence[SideDay]]) -> list[Record]:
+def make_series_records(request: Request, sides: Sequence[Side], roads: Sequence[Road], days: Sequence[Sequence[RoadRun]]) -> list[Record]:
     """Return flow and speed by time at each detector as records."""
     found, window = [], request.window
     for detector, cell in enumerate(roads[0].detectors):

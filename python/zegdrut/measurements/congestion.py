@@ -22,14 +22,13 @@ space-mean speed if simulated.
 from __future__ import annotations
 
 import math
-from concurrent.futures import ThreadPoolExecutor
 from dataclasses import dataclass
 from typing import Callable, NamedTuple, Sequence
 
 from ..figures.intervals import average_known
+from ..figures.simulation import simulate_days
 from ..program.rows import Sums, add_up
 from ..roads.clock import Clock
-from ..roads.demand import thread_count
 from ..roads.units import CELLS_A_KM, HOUR, KMH, count_things
 from .comparison import Day, Model, estimate_days, simulate_day
 from .measured import Measured, Series
@@ -253,13 +252,7 @@ def list_segments(model: Model) -> list[Segment]:
 def simulate_segments(model: Model, segments: Sequence[Segment], days: int,
                       progress: Callable[[int, int], None] | None = None) -> list[JudgedDay]:
     """Simulate days in parallel: the seed of the road, and the ones after it."""
-    found: list[JudgedDay] = []
-    with ThreadPoolExecutor(thread_count()) as pool:
-        for day in pool.map(lambda seed: simulate_segment_day(model, segments, seed), range(model.seed, model.seed + days)):
-            found.append(day)
-            if progress:
-                progress(len(found), days)
-    return found
+    return simulate_days(lambda seed: simulate_segment_day(model, segments, seed), range(model.seed, model.seed + days), progress)
 
 
 def simulate_segment_day(model: Model, segments: Sequence[Segment], seed: int) -> JudgedDay:

@@ -19,9 +19,10 @@ import datetime
 import math
 import re
 from collections import Counter
-from dataclasses import dataclass, field
+from dataclasses import dataclass, field, replace
 from pathlib import Path
-from typing import Iterable, Mapping, NamedTuple
+from types import MappingProxyType
+from typing import Iterable, Mapping, NamedTuple, Sequence
 
 from ..program.errors import Fault
 from ..roads.units import count_things
@@ -37,6 +38,8 @@ MOST_LISTED = 5
 """The number of lines of one kind that a note names."""
 MOST_SPEED = 250.0
 """The highest plausible mean speed in km/h. Higher speeds count as missing."""
+LEAST_FACTOR = 0.5
+"""The least factor that corrects the counts of a station. The greatest is its inverse."""
 HEADERS = {
     "time": ("time", "timestamp", "datetime", "begin", "start", "interval"),
     "km": ("km", "kilometre", "kilometer", "position"),
@@ -349,6 +352,23 @@ def read_time(path: Path, number: int, text: str) -> datetime.datetime | datetim
     except ValueError:
         pass
     raise Fault(f'{path}, line {number}: {text!r} is not a time: write "07:05", "2026-03-02 07:05" or "03/02/2026 07:05:00"')
+
+
+def correct_counts(counts: Counts, leave_out: Sequence[str] = (), factors: Mapping[str, float] = MappingProxyType({})) -> Counts:
+    """Return counts without some stations, and with the counts of some stations times a factor. Fault: a station is unknown, or a factor
+    is out of range."""
+    for name in (*leave_out, *factors):
+        if name not in counts.stations:
+            raise Fault(f"{counts.path} has no station {name}: the stations are {', '.join(counts.stations)}")
+    for name, factor in factors.items():
+        if not LEAST_FACTOR <= factor <= 1 / LEAST_FACTOR:
+            raise Fault(f"--scale {name}={factor:g}: the factor must be {LEAST_FACTOR:g} to {1 / LEAST_FACTOR:g}")
+    rows, repeated = ([row._replace(cars=None if row.cars is None else row.cars * factors.get(row.station, 1.0)) for row in each
+                       if row.station not in leave_out] for each in (counts.rows, counts.repeated))
+    notes = [*counts.notes, *(f"station {name} is left out" for name in leave_out),
+             *(f"the counts of station {name} are multiplied by {factor:g}" for name, factor in factors.items() if name not in leave_out)]
+    return replace(counts, stations={name: one for name, one in counts.stations.items() if name not in leave_out}, rows=rows, repeated=repeated,
+                   notes=notes)
 
 
 # Checks
