@@ -128,7 +128,7 @@ class Seats(Case):
             self.assertEqual([line["who"], line["operations"][0]["who"]], ["Ada", "Ada"])
 
     async def test_who_gets_a_freed_seat_undoes_nothing_of_the_one_who_left(self) -> None:
-        """What a seat made is what the journal says, not the number in a stamp."""
+        """The journal says what a seat made, not the number in a stamp."""
         async with Here() as here:
             await here.join("Ada")
             await here.ask(1, "gesture", key="a", shape=["limit", 1, 1, 10, None, 3])
