@@ -30,6 +30,7 @@ from .stamps import StampClock
 TAB_FORM = 4  # the protocol of tabs
 SITE_FORM = 3  # the protocol of sites
 MOST_NEWS = 100
+MOST_FORGOTTEN_KEYS = 1_000  # keys of a seat whose operations were forgotten
 APPLIED_AT_ONCE = 100  # operations that are applied before others get a turn
 LAYERS_PER_UNIT = 12  # layers of an operation that count as one more operation
 MOST_UNREADABLE = 10  # operations of a journal that cannot be read; with more, the server does not start
@@ -430,6 +431,12 @@ class State:
         for one in gone:
             self._drop(seat, one)
         seat.rebuild_without(lines, others - gone)
+
+    def forget_keys(self, seat: SeatReplica) -> None:
+        """Drop keys whose operations were forgotten, except the newest."""
+        held = {*self.by_stamp, *(one.stamp for one in self.unreadable)}
+        for key in [key for key, stamp in seat.done.items() if stamp not in held][:-MOST_FORGOTTEN_KEYS]:
+            del seat.done[key]
 
     # Compaction
 

@@ -105,8 +105,8 @@ class Seating:
         return await self._give(index, self._state.seats[index].name)
 
     async def _new_seat(self, name: str) -> tuple[int, str]:
-        if not name:
-            raise self._refuse_with_seats("NoName", "give a name of 1 to 64 characters")
+        if not fold_look_alikes(name):
+            raise self._refuse_with_seats("NoName", "give a name of 1 to 64 characters, with one that can be seen")
         alike = self._find_similar_name(name)
         if alike is not None:
             hint = "" if alike == name else f", and {name} looks like it"
