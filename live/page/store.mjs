@@ -276,9 +276,9 @@ export const now = () => store.clock.now;
 export const last = () => Math.max(store.clock.now, store.ahead);
 
 /** Ask whether this tab's seat made a change.
- * @param {Pick<Change, "name">} change
+ * @param {Pick<Change, "seat">} change
  */
-export const isOwn = ({name}) => name.number === need("me").number;
+export const isOwn = ({seat}) => seat === need("me").seat;
 
 /** Return the road that is shown, or two: then their difference is drawn, the first minus the second.
  * @returns {RoadName[]}
