@@ -158,6 +158,26 @@ class Seats(Case):
             line, = (await self.here.ask(others[0], "layers", at="shared"))["layers"]
             self.assertEqual([line["who"], line["operations"][0]["who"]], ["Ada", "Ada"])
 
+    async def test_who_gets_a_freed_seat_undoes_nothing_of_the_one_who_left(self) -> None:
+        """The journal says what a seat made, not the number in a stamp."""
+        async with Here() as here:
+            await here.join("Ada")
+            await here.ask(1, "gesture", key="a", shape=["limit", 1, 1, 10, None, 3])
+            await here.share(1)
+            own = (await here.ask(1, "layers"))["layers"][0]
+            self.assertEqual((own["seat"], own["operations"][0]["seat"]), (1, 1))
+            await here.ask(1, "leave")
+            here.keeper.connected.clear()
+            for _ in range(2):
+                self.assertEqual(await here.join("Ben"), [1])
+                await here.take(1)
+                said = await here.ask(1, "layers")
+                self.assertEqual(said["undo"], None)
+                self.assertEqual([("seat" in line, "seat" in line["operations"][0]) for line in said["layers"]], [(False, False)])
+                await here.ask(1, "leave")
+                here.keeper.connected.clear()
+                await here.keeper.compact()
+
     async def test_requests_for_whole_lists_wait_for_their_turn(self) -> None:
         """Earlier questions of the seat are answered first, and questions of others while it waits."""
         keeper, is_free = self.here.keeper, asyncio.Event()

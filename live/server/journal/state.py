@@ -68,6 +68,7 @@ class Replica:
         self.index, self._state = index, state
         self.begun = self.version = state.begun  # the first and the present version of its list
         self.marks: dict[Stamp, int] | None = None  # line -> version of its last change, relative to `begun`
+        self.own: dict[Operation, None] = {}  # made at this seat, in order
         self.places: dict[Operation, int] = {}  # operation -> its place in order of arrival
         self.size: int = 0  # how many operations it holds
         self._road: Road | None = None
@@ -191,7 +192,6 @@ class SeatReplica(Replica):
         self.count = count  # the greatest count in its stamps
         self.upto = 0  # how many operations of the shared road it has taken
         self.used: float = 0  # when it last had a tab, in seconds since 1970, in seconds since 1970
-        self.own: dict[Operation, None] = {}  # made at this seat, in order
         self.done: dict[str, Stamp] = {}  # its operations by their keys
         self.renamed: dict[Stamp, Stamp] = {}  # the stamps of operations that were stamped again
         self.idle: frozenset[Operation] = frozenset()  # private ones that need not be shared, as the list shows
@@ -223,7 +223,7 @@ class SeatReplica(Replica):
             return []
         road, shared = self.road, self._state.shared.road
         if self._shareable is None or self._shareable[0] is not road or self._shareable[1] is not shared:
-            self._shareable = road, shared, shareable(road, shared, self.number, self._all_shared(shared))
+            self._shareable = road, shared, shareable(road, shared, self.own, self._all_shared(shared))
         return self._shareable[2]
 
     def _all_shared(self, shared: Road) -> Road:
@@ -423,7 +423,7 @@ class State:
         private = self.private(seat)
         if len(private) <= kept:
             return
-        gone = find_forgettable(seat.road, self.shared.road, seat.number, kept) & set(private)
+        gone = find_forgettable(seat.road, self.shared.road, seat.own, kept) & set(private)
         if not gone:
             return
         lines = {line for one in gone for line in lines_of(seat.road, one)}
