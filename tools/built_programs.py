@@ -41,8 +41,12 @@ def text_of(name: str) -> str:
 
 
 def write_record(path: Path, text: str, proved: bool, checks: bool) -> None:
-    """Write a record next to a program: the checksum of the text that it was made from, and how it was made."""
-    programs.write_record(path, text, proved, checks)
+    """Write a record next to a program: the checksum of the text that it was made from, and how and with which kit it was made."""
+    try:
+        kit = kit_name()
+    except (OSError, subprocess.CalledProcessError):
+        kit = None
+    programs.write_record(path, text, proved, checks, kit)
 
 
 def current_path(name: str, with_checks: bool = True) -> Path | None:

@@ -11,7 +11,7 @@ import packages
 from built_programs import (CALLS, LABORATORY, PROGRAMS, WITHIN, current_path, is_proved_by_gate, kit_name, proved_path,
                             unproved_path)
 
-FIRST, GATE = "pages", "proof"  # FIRST takes seconds: if it fails, the proof, which takes an hour, does not begin
+FIRST, GATE, RECORD = "pages", "proof", "record"  # FIRST takes seconds: if it fails, the proof, which takes long, does not begin
 NO_KIT = "there is no `rt` on the PATH: add the bin folder of the Rattle kit"
 MOST = 64  # processors: stands for all processors of the machine
 MINUTES_OF_MUTANTS = 10
@@ -70,12 +70,11 @@ def choose(names: Sequence[str], proof: bool) -> list[Part]:
 
 
 def with_programs(parts: Iterable[Part], proof: bool) -> list[Part]:
-    """Return the parts, after new ones that make their programs: the proof, or a compilation of each missing program."""
-    installed = [without_packages(part) for part in parts]
+    """Return the parts, after new ones that make their programs: the proof, or a compilation of each missing program. If a package is
+    missing, nothing is proved."""
+    installed = [without_packages(part, proof) for part in parts]
     if proof:
-        first = [part for part in installed if part.name == FIRST]
-        proved = {name: proved_path(name) for name in PROGRAMS}
-        return [*first, gate(tuple(part.name for part in first)), *(by_programs(part, proved, (GATE,)) for part in installed if part not in first)]
+        return [part for part in installed if part.left_out] or with_proof(installed)
     kit = find_kit()
     runnable = [without_kit(part, kit) for part in installed]
     wanted = {name for part in runnable if not part.left_out for name in part.programs}
@@ -85,10 +84,20 @@ def with_programs(parts: Iterable[Part], proof: bool) -> list[Part]:
     return [*makers, *(by_programs(part, paths, before(part, makers)) for part in runnable)]
 
 
-def without_packages(part: Part) -> Part:
-    """Leave a part out if a package that it needs is missing. (`recipes` itself leaves out the recipes whose packages are missing.)"""
+def with_proof(parts: Sequence[Part]) -> list[Part]:
+    """Return the check of pages, the proof, and then the other parts, with the proved programs. If these are all parts, the last one
+    records that they have passed."""
+    first, others = [part for part in parts if part.name == FIRST], [part for part in parts if part.name != FIRST]
+    proved = {name: proved_path(name) for name in PROGRAMS}
+    chosen = [*first, gate(tuple(part.name for part in first)), *(by_programs(part, proved, (GATE,)) for part in others)]
+    is_whole = len(parts) == len(all_parts())
+    return [*chosen, record(tuple(part.name for part in chosen))] if is_whole else chosen
+
+
+def without_packages(part: Part, proof: bool) -> Part:
+    """Leave a part out if a package that it needs is missing. (Without a proof, `recipes` itself leaves out only what needs it.)"""
     missing = packages.find_missing([part.name])
-    return replace(part, left_out=f"not installed: {' '.join(missing)}") if missing and part.name != "recipes" else part
+    return replace(part, left_out=f"not installed: {' '.join(missing)}") if missing and (proof or part.name != "recipes") else part
 
 
 def without_kit(part: Part, kit: str | None) -> Part:
@@ -122,9 +131,14 @@ def find_program(name: str, kit: str | None) -> Path | None:
 
 
 def gate(before: tuple[str, ...]) -> Part:
-    """Prove everything, and record which text was proved."""
-    return Part(GATE, "", ("text=$(tools/prove-program --text)", "rt ci", "tools/prove-program --record $text"), processors=MOST,
-                before=before, is_shown=True)
+    """Find edits that do not fit the code, prove everything, and record next to each program which text was proved."""
+    return Part(GATE, "", ("tools/try-mutants --read", "text=$(tools/prove-program --text)", "rt ci", "tools/prove-program --record $text"),
+                processors=MOST, before=before, is_shown=True)
+
+
+def record(before: tuple[str, ...]) -> Part:
+    """Record in .ci/proved that the gate has passed with the text of these programs."""
+    return Part(RECORD, "", ("tools/prove-program --passed",), before=before)
 
 
 def make(name: str, kit: str | None) -> Part:

@@ -5,6 +5,7 @@ import importlib.util
 import os
 import shutil
 import sys
+import time
 from dataclasses import dataclass
 from pathlib import Path
 from typing import Collection, Iterable
@@ -14,12 +15,13 @@ import processes
 LIST = Path(__file__).resolve().with_name("packages.txt")
 DEBIAN_PYTHON = "/usr/bin/python3"
 START, BROKER = "start", "broker"  # the users of packages for ./start, without and with a broker
-HEADERS = Path("/usr/include")
+LONGEST = 600.0  # seconds to wait while another process holds a lock of apt
+LOOK = 1.0  # seconds between two tries to get the lock
 
 
 @dataclass(frozen=True)
 class Package:
-    """A package, what shows that it is installed (the kind and name of a module, command or file), and who uses it."""
+    """A package, what shows that it is installed (the kind, and the name of a module or command or the path of a file), and who uses it."""
 
     name: str
     kind: str
@@ -30,8 +32,8 @@ class Package:
         if self.kind == "module":
             return is_module(self.probe)
         if self.kind == "command":
-            return shutil.which(self.probe, path=f"{os.environ.get('PATH', '')}:/usr/sbin") is not None
-        return (HEADERS / self.probe).exists()
+            return shutil.which(self.probe) is not None
+        return os.path.exists(self.probe)
 
 
 def is_module(name: str) -> bool:
@@ -71,11 +73,22 @@ def may_install() -> bool:
 
 def install(missing: list[str]) -> None:
     """Install packages, with a line on standard error. Raises processes.Failed, with the output of apt-get, if that fails."""
-    quiet = {**os.environ, "DEBIAN_FRONTEND": "noninteractive"}
     with processes.Step(f"installing {' '.join(missing)}") as step:
         for words in (["update", "-q"], ["install", "-q", "-y", "--no-install-recommends", *missing]):
-            processes.run_quietly(["apt-get", *words], step, env=quiet)
+            run_apt(words, step)
     importlib.invalidate_caches()
+
+
+def run_apt(words: list[str], step: processes.Step) -> None:
+    """Run apt-get, and wait while another process holds one of its locks. (DPkg::Lock::Timeout does not cover the lock of `update`.)"""
+    plain, end = {**os.environ, "DEBIAN_FRONTEND": "noninteractive", "LC_ALL": "C"}, time.monotonic() + LONGEST
+    while True:
+        try:
+            return processes.run_quietly(["apt-get", *words], step, env=plain)
+        except processes.Failed as fault:
+            if "Could not get lock" not in str(fault) or time.monotonic() > end:
+                raise
+        time.sleep(LOOK)
 
 
 def provide(users: Collection[str]) -> list[str]:

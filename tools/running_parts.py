@@ -2,6 +2,7 @@
 from __future__ import annotations
 
 import os
+import re
 import shutil
 import signal
 import subprocess
@@ -20,6 +21,8 @@ LOOK = 0.2  # seconds between two looks at the parts that run
 LONGEST = 3_600  # seconds that a part may run whose output is not shown while it runs
 PASSED, FAILED, LEFT_OUT = "ok", "FAILED", "left out"
 SAYS_LEFT_OUT = "left out: "  # a test begins a line with this if the test itself leaves something out
+SAYS_BAD_EDIT = ": BAD EDIT: "  # rt says this of an edit that cannot be applied or compiled; `rt ci` then passes
+DUE = re.compile(r"(\d+) mutants are due\b")  # the last line of tools/try-mutants
 
 
 @dataclass
@@ -50,10 +53,11 @@ class Run:
 
 
 class Report:
-    """Prints one line for each part, and counts the outcomes. If it is strict, a part that is left out counts as failed."""
+    """Prints one line for each part, and counts the outcomes. If it is strict, a part fails if it is left out or leaves something out."""
 
     def __init__(self, folder: Path, is_strict: bool) -> None:
         self.folder, self.is_strict, self.outcomes = folder, is_strict, dict[str, str]()
+        self.skipped = 0  # what parts that passed have left out, and mutants that are due
         shutil.rmtree(folder, ignore_errors=True)
         folder.mkdir(parents=True)
         self._width, self._counts = 0, sys.stdout.isatty()
@@ -64,6 +68,17 @@ class Report:
         self.outcomes[part.name] = outcome
         time_taken = f"{seconds:5.0f} s" if outcome != LEFT_OUT else ""
         print(f"{part.name:<20} {outcome:<9}{time_taken}{why and ' ' + why}", flush=True)
+
+    def add_ended(self, part: Part, seconds: float, output: str) -> None:
+        """Record a part that ended with status 0: its output decides whether it has passed. Print the lines that say so."""
+        lines = output.splitlines()
+        bad, left_out = [line for line in lines if SAYS_BAD_EDIT in line], [line for line in lines if line.startswith(SAYS_LEFT_OUT)]
+        due = [match for match in map(DUE.match, lines) if match]
+        has_failed = bad or self.is_strict and left_out
+        self.add(part, FAILED if has_failed else PASSED, seconds)
+        self.skipped += sum(int(match[1]) for match in due) + (0 if self.is_strict else len(left_out))
+        for line in (*bad, *left_out, *(match.string for match in due)):
+            print(f"{'':<20} {line}", flush=True)
 
     def show_running(self, runs: Sequence[Run]) -> None:
         """Print on a terminal which parts are running, in a line that the next line replaces."""
@@ -83,10 +98,10 @@ class Report:
         return not counts[FAILED] and not (self.is_strict and counts[LEFT_OUT])
 
     def closing_line(self) -> str:
-        """Return the line that says how many parts passed and failed; CI reads it."""
+        """Return the line that says how many parts passed and failed, and how much was skipped; CI reads it."""
         counts = Counter(self.outcomes.values())
         failed = counts[FAILED] + counts[LEFT_OUT] * self.is_strict
-        skipped = counts[LEFT_OUT] * (not self.is_strict)
+        skipped = self.skipped + counts[LEFT_OUT] * (not self.is_strict)
         return f"{counts[PASSED]} passed, {failed} failed" + (f", {skipped} skipped" if skipped else "")
 
 
@@ -142,16 +157,12 @@ def finish(run: Run, report: Report) -> None:
     processes.end(run.process)
     if run.part.is_shown:
         run.show_new_lines()
-    passed = not is_too_long and run.process.returncode == 0
-    why = "" if passed else f"longer than {LONGEST} s" if is_too_long else f"status {run.process.returncode}"
-    report.add(run.part, PASSED if passed else FAILED, run.seconds(), why)
     output = run.log.read_text(encoding="utf-8", errors="replace")
-    if not passed and not run.part.is_shown:
+    if not is_too_long and run.process.returncode == 0:
+        return report.add_ended(run.part, run.seconds(), output)
+    report.add(run.part, FAILED, run.seconds(), f"longer than {LONGEST} s" if is_too_long else f"status {run.process.returncode}")
+    if not run.part.is_shown:
         print(f"{output.rstrip()}\n({run.log})", flush=True)
-    elif passed:
-        for line in output.splitlines():
-            if line.startswith(SAYS_LEFT_OUT):
-                print(f"{'':<20} {line}", flush=True)
 
 
 def end_all(running: Sequence[Run]) -> None:

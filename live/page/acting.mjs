@@ -152,11 +152,14 @@ function warnOfBlocked(stamp) {
 }
 
 /** Send a command that changes something, and note it as pending until it is confirmed. If the first
- * step that it changes is known, ask for rows at once.
+ * step that it changes is known, ask for rows at once. The same command twice, while the first one is
+ * the newest that is pending, is one.
  * @param {Pending["command"]} command
  * @param {{note: string} & Partial<Pending>} about
  */
 function act(command, {note, shape, first, does = "apply", undoes, taken = ""}) {
+  const newest = [...store.pending.values()].at(-1);
+  if (JSON.stringify(newest?.command) === JSON.stringify(command)) return;
   const key = crypto.randomUUID();
   store.pending.set(key, {command, note, shape, first, does, undoes, taken});
   persistPending();
@@ -203,7 +206,8 @@ export async function send(key) {
   if (timing) assign(timing, {confirmed: performance.now(), us: isDone ? said.us : undefined});
   if (isDone) {
     store.notes.set(keyOf(said.stamp), note);
-    tell(messages.done(note, does !== "apply", store.whose === "shared") + taken);
+    const waiting = store.pending.size + store.waiting.size;
+    tell(messages.done(note, does !== "apply", store.whose === "shared", waiting) + taken);
     if (said.touched !== null && said.touched < first) roadOf("mine").invalidate(said.touched);
     await takeLayers("mine", said);
   }
@@ -291,7 +295,7 @@ async function askLayers(whose) {
 /** Refresh the lists, if the page has joined. */
 export function refreshLists() {
   if (!store.me || !store.layers.mine) return;
-  store.changes = listChanges(layersOf("mine"), store.me.number);
+  store.changes = listChanges(layersOf("mine"), store.me.seat);
   notify("changes");
 }
 

@@ -17,6 +17,12 @@ import {LAST_STEP, chanceText, kmText, limitText} from "./units.mjs";
 export const countCurves = () =>
   [[...store.curves.values()].filter((one) => "points" in one).length, store.curves.size];
 
+/** Ask whether a shape waits until the server has measured what its inlet admits.
+ * @param {Shape} shape
+ */
+export const isUnmeasured = ({kind, first, from, value}) =>
+  kind === "inflow" && Number.isNaN(value) && layersOf("mine").curveAt(first, from) === null;
+
 /** Say in a sentence why a value is invalid.
  * @param {Kind} kind
  * @param {number} first     the object
@@ -41,11 +47,13 @@ export function faultOfValue(kind, first, from) {
 export function areaOfShape(shape, old = null, coversNoZone = false) {
   const {kind, first, last, from, to, value, demand} = shape;
   const [plan, mine] = [need("plan"), layersOf("mine")];
-  const isValid = !Number.isNaN(value);
+  const waits = isUnmeasured(shape);
+  const isValid = waits || !Number.isNaN(value);
   const note = isValid ? shapeText(mine, shape) : "";
   const what = isValid ? valueText(mine, kind, value, first, from, demand) : "";
   const lines = [what, placesText(plan, kind, first, last),
-                 takenZonesText(plan, kind, first, last), mine.day.spanText(from, to)].filter(Boolean);
+                 takenZonesText(plan, kind, first, last), mine.day.spanText(from, to),
+                 waits ? messages.measuringInlet(...countCurves()) : ""].filter(Boolean);
   const fault = coversNoZone ? messages.TOO_FEW_ZONES : faultOf(shape);
   return {shape, note, lines, fault, old};
 }
@@ -57,5 +65,5 @@ function faultOf(shape) {
   const {kind, first, last, from, value} = shape;
   if (isTooLate(shape)) return messages.tooLate(store.day.timeText(LAST_STEP));
   if (last - first >= MOST_OBJECTS) return messages.tooLong(kmText(MOST_OBJECTS));
-  return Number.isNaN(value) ? faultOfValue(kind, first, from) : "";
+  return Number.isNaN(value) && !isUnmeasured(shape) ? faultOfValue(kind, first, from) : "";
 }

@@ -11,7 +11,7 @@ import {need, layersOf, layersShown, store} from "./store.mjs";
 /** @typedef {import("./types.mjs").Shape} Shape */
 
 /** Return words for the changes of the own road, or of another road. */
-export const words = (layers = layersOf("mine")) => new Words(layers, need("me").number);
+export const words = (layers = layersOf("mine")) => new Words(layers, need("me").seat);
 
 /** Return words for the changes of the road that is shown. */
 export const wordsShown = () => words(layersShown());
@@ -45,10 +45,11 @@ const pendingActs = () => [...store.pending].map(([key, {does, undoes}]) => ({ke
 /** Return what Undo would undo and Redo would redo: a stamp, a key, null or undefined. */
 export const next = () => nextOf(store.layers.mine ?? {undo: null, redo: null}, pendingActs());
 
-/** Return the shapes of pending acts that no pending act undoes.
+/** Return the shapes of pending acts that no pending act undoes, and of demands that wait.
  * @returns {Shape[]}
  */
 export function waitingShapes() {
   const gone = findUndone(pendingActs());
-  return [...store.pending].flatMap(([key, {shape}]) => (shape && !gone.has(key) ? [shape] : []));
+  const pending = [...store.pending].flatMap(([key, {shape}]) => (shape && !gone.has(key) ? [shape] : []));
+  return [...pending, ...[...store.waiting.values()].map(({shape}) => shape)];
 }

@@ -1,15 +1,15 @@
 // Actions: the tool, the rectangle that is drawn, the cursor, and the form for typed values.
 
-import {put} from "./acting.mjs";
-import {areaOfShape} from "./area.mjs";
+import {put, refreshLists} from "./acting.mjs";
+import {areaOfShape, isUnmeasured} from "./area.mjs";
 import {assign} from "./assign.mjs";
 import {curveSoon} from "./demand.mjs";
-import {demandInForm, fieldsOf, readForm, takenText} from "./formvalues.mjs";
+import {fieldsOf, readForm, takenText} from "./formvalues.mjs";
 import {clamp, sameShape} from "./geometry.mjs";
 import {moveBy} from "./looking.mjs";
 import * as messages from "./messages.mjs";
 import {layersOf, need, notify, store, tell} from "./store.mjs";
-import {LAST_STEP} from "./units.mjs";
+import {LAST_STEP, chanceOfDemand} from "./units.mjs";
 import {strideNow} from "./view.mjs";
 
 /** @typedef {import("./store.mjs").Drag} Drag */
@@ -74,10 +74,8 @@ export function followChangeInForm() {
   notify("form");
 }
 
-/** Put what the form says, or say why not. For a demand, first wait until its inlet is measured. */
-export async function applyForm() {
-  const {inlet, from} = demandInForm();
-  if (store.tool === "inflow" && from >= 0) await curveSoon(layersOf("mine"), inlet, from);
+/** Put what the form says, or say why not. */
+export function applyForm() {
   const shape = readForm();
   if (typeof shape === "string") {
     tell(shape, true);
@@ -93,7 +91,8 @@ export async function applyForm() {
 const isAsItWas = ({shape, old}) => old && !old.isRaw && store.pending.size === 0
   && sameShape(old.shape, shape);
 
-/** Put an area, or say why not. Return whether it had no fault.
+/** Put an area, or say why not. Return whether it had no fault. A demand waits until its inlet is
+ * measured.
  * @param {Area} area
  */
 export function applyArea(area) {
@@ -101,9 +100,36 @@ export function applyArea(area) {
     tell(area.fault, true);
     return false;
   }
-  if (isAsItWas(area)) tell(messages.nothingChanged(area.note));
+  if (isUnmeasured(area.shape)) putOnceMeasured(area);
+  else if (isAsItWas(area)) tell(messages.nothingChanged(area.note));
   else put(area);
   return true;
+}
+
+/** Put a demand as soon as its inlet is measured, and show in the list that it waits. The same demand
+ * twice is one.
+ * @param {Area} area
+ */
+async function putOnceMeasured(area) {
+  const {shape, old, note, taken} = area;
+  const key = JSON.stringify([shape, old?.name]);
+  store.waiting.set(key, area);
+  refreshLists();
+  const curve = await curveSoon(layersOf("mine"), shape.first, shape.from);
+  if (!dropWaiting(key)) return;
+  if (curve) {
+    const value = chanceOfDemand(shape.demand ?? NaN, curve);
+    applyArea({...areaOfShape({...shape, value}, old), taken});
+  } else tell(messages.notMeasured(note), true);
+}
+
+/** Drop a demand that waits. Return whether it was still waiting.
+ * @param {string} key
+ */
+export function dropWaiting(key) {
+  const waited = store.waiting.delete(key);
+  refreshLists();
+  return waited;
 }
 
 // A drag.

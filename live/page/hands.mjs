@@ -4,7 +4,6 @@
 import {cellAt, rowAt, stepAt} from "../../viewer/drawing.mjs";
 import {redoNewest, undoNewest} from "./acting.mjs";
 import {areaOfShape} from "./area.mjs";
-import {curveSoon} from "./demand.mjs";
 import {applyArea, beginCorner, beginDrag, chooseTool, dropArea, endDrag, hasMoved, moveCursor,
         noteClick, readPlace, showArea, showDrawn, useLetters} from "./drafting.mjs";
 import {$, closest, on} from "./elements.mjs";
@@ -150,14 +149,11 @@ function dragDiagram(event, drag) {
   moveTo(drag.cell - (event.offsetX - drag.x) / scale, drag.step - (event.offsetY - drag.y) / tall);
 }
 
-/** Put the tool's value from the place of a click on. For a demand, first wait until its inlet is
- * measured.
+/** Put the tool's value from the place of a click on.
  * @param {Kind} kind
  * @param {Place} place
  */
-async function putAt(kind, place) {
-  const {first, from} = rectangleBetween(need("plan"), kind, place, place, {open: true});
-  if (kind === "inflow") await curveSoon(layersOf("mine"), first, from);
+function putAt(kind, place) {
   applyArea(areaBetween(kind, place, place, {open: true}));
 }
 

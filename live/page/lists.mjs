@@ -2,12 +2,14 @@
 
 import {openPreview, putAgain, putOnTop, redoNewest, refreshLists, shareAll, take, undoNewest, withdraw}
   from "./acting.mjs";
+import {countCurves} from "./area.mjs";
 import {next} from "./changes.mjs";
-import {editInForm} from "./drafting.mjs";
+import {dropWaiting, editInForm} from "./drafting.mjs";
 import {$, activeIn, button, element, headCell, on, row, showList} from "./elements.mjs";
 import {isCovered, lostOf, privateOf} from "./layers.mjs";
 import {demandsOfFile, historyOf} from "./listing.mjs";
 import {setOpen, showChange} from "./looking.mjs";
+import * as messages from "./messages.mjs";
 import {keyOf} from "./stamps.mjs";
 import {need, layersOf, now, store, watch} from "./store.mjs";
 import {kmText, plural, whole} from "./units.mjs";
@@ -22,7 +24,7 @@ const MOST_PAST = 100;          // operations that the page lists
  * @param {Listed} listed
  */
 function changeButtons({change, text}) {
-  const lost = lostOf(change, need("me").number);
+  const lost = lostOf(change, need("me").seat);
   /** @type {[offered: boolean, name: string, does: () => void][]} */
   const buttons = [
     [true, "Show", () => showChange(change)],
@@ -64,6 +66,16 @@ const pendingItem = ([key, {note}]) => ({key, version: note, make: () => element
   element("p", note + " ", {className: "note"},
     element("span", "pending", {className: "state pending"})))});
 
+/** @type {(waiting: [key: string, area: import("./types.mjs").Area]) => Item} */
+const waitingItem = ([key, {note}]) => {
+  const why = messages.waitsForInlet(...countCurves());
+  return {key, version: note + why, make: () => element("li", "", {},
+    element("p", note + " ", {className: "note"},
+      element("span", "waiting", {className: "state pending"})),
+    element("p", why, {className: "hint"}),
+    element("p", "", {className: "buttons"}, button("Cancel", () => dropWaiting(key), note)))};
+};
+
 /** Focus the first list that is not empty, otherwise the diagram. */
 export const focusOnLists = () =>
   ([$("own"), $("held")].find((list) => list.children.length) ?? $("diagram")).focus();
@@ -72,7 +84,8 @@ export const focusOnLists = () =>
 function showLists() {
   /** @type {(where: Listed["where"]) => Item[]} */
   const of = (where) => store.changes.filter((one) => one.where === where).map(listedItem);
-  showList($("own"), [...[...store.pending].reverse().map(pendingItem), ...of("own")]);
+  showList($("own"), [...[...store.waiting].reverse().map(waitingItem),
+                      ...[...store.pending].reverse().map(pendingItem), ...of("own")]);
   showList($("held"), of("held"));
   const hadLast = [$("own"), $("held")].some((list) =>
     list === document.activeElement && !list.children.length);
@@ -95,7 +108,7 @@ const pastItem = ({stamp, text, meta, cover}) => ({key: keyOf(stamp),
 function showHistory() {
   $("past").hidden = !store.changes.length && !store.layers.mine?.changes.size;
   if (!store.isOpen.past || !store.me) return;
-  const all = historyOf(layersOf("mine"), store.me.number);
+  const all = historyOf(layersOf("mine"), store.me.seat);
   showList($("history"), all.slice(0, MOST_PAST).map(pastItem));
   const rest = all.length - MOST_PAST;
   $("pastRest").textContent = rest > 0 ? `And ${plural(rest, "earlier one")}: \u201cChanges as CSV\u201d in the Save menu has all.` : "";

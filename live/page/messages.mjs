@@ -54,6 +54,11 @@ export const pendingOfOtherSeat = (count) => `${plural(count, "unsent change")} 
 export const takeOver = (owner) =>
   `Whoever is using the seat of ${owner}, a person or a script, will lose it. `;
 
+/** @param {string} why       why the program is not the proved one of this version */
+export const standing = (why) => (why.includes("earlier source text")
+  ? "The road is computed by an earlier version of the program."
+  : "The program that computes the road is tested; its proof has not been run on this computer.");
+
 export const TROUBLE_OVER = "The server is working again.";
 
 /** @param {string} why */
@@ -94,7 +99,15 @@ export const CHANCE_OUT_OF_RANGE = "The chance is out of range: 0 to 100 %.";
 
 /** @type {(done: number, all: number) => string} */
 export const measuringInlet = (done, all) => "The server is measuring what this inlet admits"
-  + `${all > 1 ? `, ${done + 1} of ${all}` : ""}. Try again in a few seconds.`;
+  + `${all > 1 ? `, ${done + 1} of ${all}` : ""}. A demand that you put waits for it.`;
+
+/** @type {(done: number, all: number) => string} */
+export const waitsForInlet = (done, all) =>
+  `Waits until the server has measured what this inlet admits${all > 1 ? `, ${done + 1} of ${all}` : ""}.`;
+
+/** @param {string} note     of the change */
+export const notMeasured = (note) =>
+  `${note}: not put, because the server has not measured what the inlet admits. Put it again.`;
 
 /** @type {(done: number, all: number) => string} */
 export const measuringDemands = (done, all) =>
@@ -127,9 +140,11 @@ export const nothingChanged = (note) => `${note}: it is so already, nothing was 
  * @param {string} note      of the change, or "Undone: .."
  * @param {boolean} isUndo   or a redo
  * @param {boolean} isUnseen     the page shows the shared road, which it does not change
+ * @param {number} waiting   changes that are not put yet
  */
-export const done = (note, isUndo, isUnseen) =>
-  `${note}${isUndo ? "" : ": done"}${isUnseen ? ", on your own road" : ""}.`;
+export const done = (note, isUndo, isUnseen, waiting) =>
+  `${note}${isUndo || waiting ? "" : ": done"}${isUnseen ? ", on your own road" : ""}`
+  + `${waiting ? `; ${plural(waiting, "change is", "changes are")} waiting` : ""}.`;
 
 // Undo and redo.
 

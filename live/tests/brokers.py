@@ -6,6 +6,7 @@ import json
 import os
 import shutil
 import signal
+from pathlib import Path
 from typing import Any, Sequence
 
 from server.tabs.client import Seat
@@ -141,7 +142,6 @@ class Brokers(Case):
                     (said(limit([281474976710656, 70], 1, 20)), "[281474976710656, 70] of number 70 is more than a day"),
                     (said(limit([2764800001, 70], 1, 21)), "[2764800001, 70] of number 70 is more than a day ahead"),
                     (said(limit([1, "1"], 1, 8)), "is not a whole number"), (said(limit([1, 70], 1, 8, note="\ud800")), "not JSON"),
-                    (" " * 2_100_000, "bytes"),
                     (said({"stamp": [1, 70], "sets": [[["block", 1, step], 1] for step in range(1_202)]}), "at most 1200 raw edits")):
                 broker.say(topic, text)
                 await until(lambda: self.is_told(why, ada, sam), why)
@@ -213,9 +213,83 @@ class Brokers(Case):
         now = broker_of(seat)
         return (now["state"], now["unsent"]) == (state, unsent)
 
+    async def test_a_broker_delivers_no_message_above_the_limit(self) -> None:
+        """However long it is, the server needs no memory for it, and takes other messages."""
+        broker = self.broker()
+        first = self.site(broker, 1)
+        topic = f"road/{reference(first)}/operations"
+
+        def message(stamp: list[int], length: int) -> str:
+            put = {"stamp": stamp, "sets": [[stamp, ["limit", 2, 2, 50 + stamp[0], None, 1]]], "who": "Eve"}
+            text = json.dumps({"form": 3, "operations": [put]})
+            return text + " " * (length - len(text) - len(topic))
+        async with first.seat("Ada") as ada:
+            await until(lambda: self.broker_is(ada, "connected", 0), "connected")
+            before = memory_of(first)
+            for stamp, length in (([1, 129], 999_900), ([2, 129], 1_000_000), ([3, 129], 40_000_000), ([4, 129], 100)):
+                broker.say(topic, message(stamp, length))
+
+            async def have_come() -> bool:
+                lines: Any = (await ada.ask("layers", at="shared"))["layers"]
+                names.append([line["name"] for line in lines])
+                return [4, 129] in names[-1]
+            names: list[Any] = []
+            await until(have_come, "the last one has come")
+            self.assertEqual(names[-1], [[1, 129], [4, 129]])
+            self.assertLess(memory_of(first) - before, 20_000_000)
+
+    async def test_a_message_that_the_broker_does_not_take_is_not_sent_and_reported(self) -> None:
+        """Messages are as short as this broker wants them; an operation that is longer is kept until it takes more."""
+        broker = self.broker(True, "max_packet_size 2000")
+        first, second = self.site(broker, 1), self.site(broker, 2)
+        async with first.seat("Ada") as ada, second.seat("Sam") as sam:
+            await until(lambda: self.broker_is(ada, "connected", 0), "connected")
+            for step in range(30):
+                await ada.ask("gesture", key=f"k{step}", shape=["limit", 2, 2, 50 + step, None, step % 2])
+            await ada.ask("send", name="shared")
+
+            async def have_come() -> bool:
+                lines: Any = (await sam.ask("layers", at="shared"))["layers"]
+                return len(lines) == 30 + is_long and (not is_long or lines[-1]["shape"][3] == 10)
+            is_long = False
+            await until(have_come, "all have come")
+            is_long = True
+            await ada.ask("gesture", key="long", note="€" * 200, shape=["block", 60, 60, 1, None, 1])
+            for number in range(9):
+                await ada.ask("gesture", key=f"l{number}", note="€" * 200, layer="long", shape=["block", 60, 60, 2 + number, None, 1])
+            await ada.ask("send", name="shared")
+            await until(have_come, "all have come")
+            await until(lambda: self.broker_is(ada, "connected", 0), "all came back")
+        broker.kill()
+        conf = broker.folder / "conf"
+        conf.write_text(conf.read_text().replace("max_packet_size 2000", "max_packet_size 500"))
+        broker.start()
+        async with first.seat(key=ada.key) as ada:
+            await ada.ask("gesture", key="again", note="€" * 200, shape=["block", 61, 61, 1, None, 1])
+            await ada.ask("send", name="shared")
+            await until(lambda: self.is_told("was not sent, since the broker takes at most 500", ada), "it is reported")
+            await until(lambda: self.broker_is(ada, "connected", 1), "it has not come back")
+
+    async def test_a_broker_without_mqtt_5_is_reported(self) -> None:
+        async def refuse(reader: asyncio.StreamReader, writer: asyncio.StreamWriter) -> None:
+            await reader.read(14)
+            writer.write(bytes([0x20, 2, 0, 1]))  # the answer of MQTT 3.1.1: this version of the protocol is refused
+            writer.close()
+        async with await asyncio.start_server(refuse, "127.0.0.1", 0) as old:
+            port = old.sockets[0].getsockname()[1]
+            first = self.server("--broker", f"127.0.0.1:{port}")
+            async with first.seat("Ada") as ada:
+                await until(lambda: self.is_told("The broker does not know MQTT 5, which live needs", ada), "it is reported")
+
     async def test_a_broker_on_another_host_requires_a_password(self) -> None:
         with self.assertRaisesRegex(RuntimeError, "give --broker-user and --broker-password"):
             self.server("--broker", "192.0.2.1:8883")
+
+
+def memory_of(server: Server) -> int:
+    """Return the bytes of memory that a server uses."""
+    pages = int(Path(f"/proc/{server.process.pid}/statm").read_text().split()[1])
+    return pages * os.sysconf("SC_PAGE_SIZE")
 
 
 def reference(server: Server) -> str:

@@ -15,7 +15,7 @@ from server.journal import stamps
 from server.tabs import verbs
 from server.tabs.asked import CommandFields
 from server.tabs.refusals import MEANINGS, OF_THE_FORMAT, Refused
-from server.model.operations import Operation, Shape, put
+from server.model.operations import About, Operation, Shape, put
 from server.model.projection import all_edits
 from server.roads.screen import rows_of
 from server.sites.floods import Floods
@@ -102,6 +102,30 @@ class Bounds(Case):
         self.assertIn("Site 2 sends too many messages: they are ignored for 30 seconds", " ".join(first.state()["stays"]))
         self.assertEqual(second._floods.ignored_senders(), [])  # the site does not ignore its own messages
 
+    async def test_what_is_refused_counts_as_work_and_a_message_gives_one_sentence(self) -> None:
+        """So a site that sends nothing but operations that are refused is ignored, too."""
+        bus = Bus()
+        one, two = [await self.enterAsyncContext(Here(site=number)) for number in (1, 2)]
+        first, second = bus.site(one), bus.site(two)
+        await bus.rounds()
+        first._floods, work = Floods(lambda: 0.0), [0.0]
+        refused = [put((count, 129), Shape("block", 60, 60 + count % 2 * 1_000, count, None, 2), About("Ben")) for count in range(1, 301)]
+        message = message_of(second, *refused)
+        before = len(first.state()["told"])
+
+        def worked() -> float:
+            work[0] += 0.01
+            return work[0]
+        with mock.patch("server.sites.sites.thread_time", worked), self.assertLogs(level="WARNING") as logs:
+            for number in range(3):
+                await first._receive(message.topic, two.lab.state.folder, message.payload)
+                self.assertEqual(len(first.state()["told"]), before + 1)
+        self.assertEqual(len(logs.output), 1)
+        self.assertIn("300 operations of a message were ignored. The first: ", told(first))
+        self.assertEqual(one.lab.state.shared.size, 0)
+        # Each operation took 0.01 seconds, of 6 that are allowed at once.
+        self.assertIn("Site 2 sends too many messages", told(first) if first._floods.count_message(two.lab.state.folder) else "")
+
     async def test_every_site_accepts_exactly_the_operations_that_a_tab_may_make(self) -> None:
         """Sites and tabs have the same limits: here a closure of 600 cells in raw edits, and a drag of its end, which withdraws
         them all."""
@@ -133,10 +157,10 @@ class Bounds(Case):
         layer = Operation((2, number), {(2, number): Shape("limit", 2, 2, 5, None, 1)}, undoes=good.stamp)
         height = Operation((3, number), heights={good.stamp: (3, number)}, undoes=good.stamp)
         exclusion = Operation((4, number), undoes=good.stamp, excludes=(3, True))
-        message = message_of(site, layer, good, height, exclusion)
-        await site._receive(message.topic, "f", message.payload)
-        self.assertEqual([one.stamp for one in here.lab.state.shared.places], [good.stamp])
         for one in (layer, height, exclusion):
+            message = message_of(site, one, good)
+            await site._receive(message.topic, "f", message.payload)
+            self.assertEqual([one.stamp for one in here.lab.state.shared.places], [good.stamp])
             self.assertIn(f"the operation {list(one.stamp)} undoes another one, so it must do nothing else", told(site))
 
     async def test_an_operation_without_an_effect_is_refused_with_a_sentence(self) -> None:

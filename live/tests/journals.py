@@ -21,7 +21,7 @@ from unittest import mock
 import running
 from faulty import Disk, Here, soon
 from server.tabs.client import Seat
-from server.journal.journal import CannotStart, Entries, Journal, NotWritten, lock, put_in_place, read_entries
+from server.journal.journal import CannotStart, Entries, Journal, NotWritten, lock, make_folder, put_in_place, read_entries
 from server.journal.keeper import Keeper
 from server.background.settings import Settings
 from crashes import numbers
@@ -307,6 +307,16 @@ class Writing(unittest.IsolatedAsyncioTestCase):
             self.assertEqual(disk.calls, ["write", "write", "fsync", "rename"])
 
 
+    async def test_a_new_folder_is_in_the_folder_above_it_after_a_power_failure(self) -> None:
+        top, synced = self.path.parent, list[str]()
+        with Disk() as disk:
+            disk.before = lambda name, given: synced.append(f"{name} {os.readlink(f'/proc/self/fd/{given[0]}')}")
+            make_folder(top / "a" / "b")
+            make_folder(top / "a" / "b")
+        self.assertEqual(synced, [f"fsync {top}", f"fsync {top / 'a'}"])
+        self.assertTrue((top / "a" / "b").is_dir())
+
+
 def seen(state: State) -> Any:
     """Return a state in a form that can be compared."""
     return (state.plan, state.site, state.folder, state.rate, state.now, state.stop, state.bound, state.shares,
@@ -348,8 +358,8 @@ class Folders(Case):
         server.kill()
         path = server.folder / "journal.jsonl"
         good = path.read_bytes()
-        beyond = {"seat": 1, "operation": {"stamp": [1, 65], "sets": [[["limit", 2, 1 << 32], 3]]}}
-        for broken in (b"good morning\n", b'{"made":{"seat":99}}\n', b'{"what":{}}\n', line_of({"made": beyond})):
+        beyond = {"seat": 1, "upto": 1 << 41}
+        for broken in (b"good morning\n", b'{"made":{"seat":99}}\n', b'{"what":{}}\n', line_of({"take": beyond})):
             path.write_bytes(good + broken + line_of({"clock": {"rate": 0, "now": 5}}))
             with self.assertRaisesRegex(RuntimeError, r"live/serve: [^\n]*journal\.jsonl, line 2[,:][^\n]*\n\Z"):
                 server.start()

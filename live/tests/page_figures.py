@@ -87,7 +87,17 @@ class OneFreeway(BrowserCase):
         tab.choose("inlet", "1")
         tab.fill(timeFrom="1:00")
         tab.until(lambda: "is measuring" in tab.text("toolHint"), "how far it is")
-        self.assertRegex(tab.text("toolHint"), r"^The server is measuring what this inlet admits, \d+ of \d+\. Try again")
+        self.assertRegex(tab.text("toolHint"), r"^The server is measuring what this inlet admits, \d+ of \d+\. A demand that you put waits")
+        for _ in range(3):  # the same demand three times is one
+            tab.press_in("#apply")
+        self.assertEqual([line for line in tab.lines("own") if "waiting" in line], ["Demand 1,000 cars/h, at 1.5 km, from 1:00:00 on waiting"])
+        tab.tool("block")
+        tab.fill(kmFrom="3", kmTo="3.4", timeFrom="0:20", timeTo="0:30")
+        tab.press_in("#apply")
+        tab.until(lambda: tab.text("said").startswith("Closed"), "another change is put meanwhile")
+        self.assertRegex(tab.text("said"), r"0:20:00–0:30:00; 1 change is waiting\.")
+        tab.press("Cancel", "#own")
+        self.assertEqual([line for line in tab.lines("own") if "waiting" in line], [])
 
     def test_a_demand_is_shown_as_it_was_asked_for(self) -> None:
         """The demand of the road's file is a table, and not lines of the lists and the report. A demand that a person put is

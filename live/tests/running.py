@@ -187,13 +187,14 @@ class Server:
 class Broker:
     """A mosquitto at a port that stays the same."""
 
-    def __init__(self, keeps: bool = True) -> None:
+    def __init__(self, keeps: bool = True, *more: str) -> None:
+        """`more` are lines of its configuration."""
         self.folder = new_folder()
         self.port = free_port()
         kept = self.folder / "kept"
         kept.mkdir()
         lines = [f"listener {self.port} 127.0.0.1", "allow_anonymous true", f"persistence {str(keeps).lower()}",
-                 f"persistence_location {kept}/", "max_queued_messages 10000"]
+                 f"persistence_location {kept}/", "max_queued_messages 10000", *more]
         lines += ["user root"] if os.geteuid() == 0 else []
         (self.folder / "conf").write_text("\n".join(lines) + "\n")
         self.start()
@@ -291,8 +292,8 @@ class Case(Watched, unittest.IsolatedAsyncioTestCase):
         self.addCleanup(lambda: end(server.process))  # the one that runs at last
         return server
 
-    def broker(self, keeps: bool = True) -> Broker:
-        broker = Broker(keeps)
+    def broker(self, keeps: bool = True, *more: str) -> Broker:
+        broker = Broker(keeps, *more)
         self.addCleanup(lambda: end(broker.process))
         return broker
 

@@ -13,7 +13,7 @@ from unittest import mock
 
 from faulty import Bus, Disk, Here, soon
 from running import Case, until
-from server.figures import chance, figures
+from server.figures import days, figures
 from server.tabs.refusals import Refused
 from server.journal.records import SeatUsed
 from server.journal.journal import Journal
@@ -399,7 +399,7 @@ def counted() -> Iterator[list[Any]]:
             return found
         return also
     with mock.patch.object(figures.Figures, "compute", kept(figures.Figures.compute)), mock.patch.object(
-            chance.Question, "answer", kept(chance.Question.answer)):
+            days.Question, "answer", kept(days.Question.answer)):
         yield computed
 
 

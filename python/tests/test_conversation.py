@@ -8,14 +8,16 @@ import re
 import signal
 import subprocess
 import sys
+import tempfile
 import threading
 import time
 import unittest
+from concurrent.futures import ThreadPoolExecutor
 from pathlib import Path
 from types import FrameType
 from typing import Any
 
-from zegdrut import Ended, LabBroken, LabError, LabTimeout, NoProgram, Plan, Refused, RoadLab
+from zegdrut import Ended, LabBroken, LabCancelled, LabError, LabTimeout, NoProgram, Plan, Refused, RoadLab
 
 FAKE = Path(__file__).with_name("fake_program.py")
 PLAN: dict[str, Any] = {"length": 8}
@@ -148,6 +150,63 @@ class Endings(unittest.TestCase):
             lab.timeout = LONG
             self.assertEqual(lab.ask(echo("next")), {"echo": "next"})
 
+    def test_a_timeout_of_a_call_with_many_commands(self) -> None:
+        """Advance by many short commands: the timeout holds for the whole call."""
+        pieces: list[int] = []
+
+        def wait(done: int, _: int) -> None:
+            pieces.append(done)
+            self.assertLess(len(pieces), 40, "the timeout holds for each command alone")
+            time.sleep(0.25)
+        with RoadLab(ROAD, timeout=LONG) as lab:
+            lab.timeout = 3
+            with self.assertRaisesRegex(LabTimeout, "no reply within 3 s"):
+                lab.advance("A", 1_000_000, 10, wait)
+            lab.timeout = LONG
+            reached = lab.advance("A", 0)
+            self.assertEqual(lab.advance("A", reached + 10), reached + 10)
+
+    def test_a_call_that_is_cancelled(self) -> None:
+        """Cancel a call from another thread, during a command and between two: it raises `LabCancelled`, and the lab goes on."""
+        pieces: list[int] = []
+        with RoadLab(ROAD, timeout=LONG) as lab:
+            def wait(done: int, _: int) -> None:
+                pieces.append(done)
+                self.assertLess(len(pieces), 5, "the call was not cancelled")
+                lab.cancel()
+            with self.assertRaisesRegex(LabCancelled, "the call was cancelled: the program continues"):
+                lab.advance("A", 1_000_000, 10, wait)
+            self.assertEqual(len(lab.cells("A", 0)), 40)
+        with fake() as lab:
+            threading.Timer(0.2, lab.cancel).start()
+            begin = time.monotonic()
+            with self.assertRaises(LabCancelled):
+                lab.ask(echo("cancelled", late=2))
+            self.assertLess(time.monotonic() - begin, 2)
+            self.assertEqual(lab.ask(echo("next")), {"echo": "next"})
+
+    def test_interrupts_of_close(self) -> None:
+        """Interrupt `close` at rising times, and repeat it: no process and no thread stays, and the lab does not reply."""
+        def interrupt(_: int, __: FrameType | None) -> None:
+            raise Interrupt
+        self.addCleanup(signal.signal, signal.SIGALRM, signal.signal(signal.SIGALRM, interrupt))
+        self.addCleanup(signal.setitimer, signal.ITIMER_REAL, 0)
+        before, interrupted = {*threading.enumerate()}, 0
+        for turn in range(60):
+            lab = fake()
+            pid = lab.ask(echo("", what="session"))["echo"]
+            try:
+                signal.setitimer(signal.ITIMER_REAL, 10 ** (-6 + turn % 30 / 10))
+                lab.close()
+                signal.setitimer(signal.ITIMER_REAL, 0)
+            except Interrupt:
+                interrupted += 1
+                lab.close()
+            self.check_refuses_all(lab, "this lab was closed")
+            self.assertFalse(Path(f"/proc/{pid}").exists())
+            self.assertEqual({*threading.enumerate()} - before, set())
+        self.assertGreater(interrupted, 5)
+
     def test_a_program_that_ends(self) -> None:
         with fake() as lab:
             with self.assertRaisesRegex(Ended, "status 3: out of memory") as raised:
@@ -206,6 +265,23 @@ class Endings(unittest.TestCase):
         with self.assertRaisesRegex(NoProgram, "no program at /nowhere/road_lab"):
             RoadLab(ROAD, "/nowhere/road_lab")
 
+    def test_a_program_that_cannot_be_started(self) -> None:
+        """Start a file that is not a program, a folder, and a program while no file can be opened: the errors name the file."""
+        with tempfile.TemporaryDirectory() as folder:
+            path = Path(folder, "wrong")
+            path.write_text("echo '{}'\n", encoding="utf-8")
+            path.chmod(0o755)
+            with self.assertRaisesRegex(LabBroken, f"{path} could not be started: Exec format error"):
+                RoadLab(ROAD, path)
+            with self.assertRaisesRegex(NoProgram, f"no program at {folder}"):
+                RoadLab(ROAD, folder)
+        code = ("import resource; from zegdrut import LabError, RoadLab\nopen_now = len(__import__('os').listdir('/proc/self/fd'))\n"
+                "resource.setrlimit(resource.RLIMIT_NOFILE, (open_now, open_now))\n"
+                f"try: RoadLab({PLAN!r}, {str(FAKE)!r})\nexcept LabError as fault: print(fault)")
+        ran = subprocess.run([sys.executable, "-c", code], capture_output=True, text=True, check=False,
+                             env={**os.environ, "PYTHONPATH": os.pathsep.join(sys.path)})
+        self.assertEqual((ran.stdout, ran.stderr), (f"{FAKE} could not be started: Too many open files: start a new one\n", ""))
+
     def test_a_plan_that_is_refused(self) -> None:
         before = {*threading.enumerate()}
         with self.assertRaisesRegex(Refused, "^Length: a road must have 8 to 8,192 cells"):
@@ -254,17 +330,33 @@ class Sharing(unittest.TestCase):
             self.assertEqual(lab.ask(echo("parent")), {"echo": "parent"})
 
     def test_a_process_that_dies_leaves_no_program(self) -> None:
-        """Kill Python while a lab is open: its program ends, too."""
-        code = ("import os, signal, sys; from zegdrut import RoadLab\n"
-                f"lab = RoadLab({PLAN!r}, {str(FAKE)!r})\n"
-                "print(lab.ask({'echo': {'text': '', 'what': 'session'}})['echo'], flush=True)\n"
-                "os.kill(os.getpid(), signal.SIGKILL)")
-        ran = subprocess.run([sys.executable, "-c", code], capture_output=True, text=True, check=False,
-                             env={**os.environ, "PYTHONPATH": os.pathsep.join(sys.path)})
-        until = time.monotonic() + LONG
-        while Path(f"/proc/{ran.stdout.strip()}").exists() and time.monotonic() < until:
-            time.sleep(0.01)
-        self.assertFalse(Path(f"/proc/{ran.stdout.strip()}").exists())
+        """End Python in several ways during a long call: its program ends at once, too."""
+        for end in ("os.kill(os.getpid(), signal.SIGKILL)", "os.kill(os.getpid(), signal.SIGTERM)", "os._exit(3)", "sys.exit(3)"):
+            code = ("import os, signal, sys, threading; from zegdrut import RoadLab\n"
+                    f"lab = RoadLab({PLAN!r}, {str(FAKE)!r})\n"
+                    "print(lab.ask({'echo': {'text': '', 'what': 'session'}})['echo'], flush=True)\n"
+                    f"threading.Thread(target=lab.ask, args=({{'echo': {{'text': '', 'late': {LONG}}}}},), daemon=True).start()\n"
+                    f"threading.Event().wait(0.3)\n{end}")
+            begin = time.monotonic()
+            ran = subprocess.run([sys.executable, "-c", code], stdout=subprocess.PIPE, text=True, check=False, stderr=subprocess.DEVNULL,
+                                 env={**os.environ, "PYTHONPATH": os.pathsep.join(sys.path)})
+            program = Path(f"/proc/{ran.stdout.strip()}/cmdline")
+            while program.exists() and program.read_bytes() and time.monotonic() < begin + LONG / 2:
+                time.sleep(0.01)
+            self.assertLess(time.monotonic() - begin, LONG / 2, end)
+
+    def test_labs_of_threads_that_end(self) -> None:
+        """Start labs in a thread and in an executor that end: the programs go on, because a thread of their own waits for them."""
+        labs: list[RoadLab] = []
+        thread = threading.Thread(target=lambda: labs.append(fake()))
+        thread.start()
+        thread.join()
+        with ThreadPoolExecutor(2) as pool:
+            labs += [one.result() for one in [pool.submit(fake) for _ in range(3)]]
+        time.sleep(0.3)
+        for number, lab in enumerate(labs):
+            with lab:
+                self.assertEqual(lab.ask(echo(number)), {"echo": number})
 
 
 if __name__ == "__main__":

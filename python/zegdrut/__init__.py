@@ -10,13 +10,13 @@
 
 Units are cells and steps; usually a cell is 7.5 m and a step 1 s. Chances are whole numbers of 1/65,536.
 """
-from .program.errors import Ended, Fault, LabBroken, LabError, LabTimeout, Refused
+from .program.errors import Ended, Fault, LabBroken, LabCancelled, LabError, LabTimeout, Refused
 from .program.lab import RoadLab
 from .program.plan import Plan
 from .program.programs import NoProgram, program_path
 from .program.records import Car, Count, Crowd, Edit, Head, Lost, Object, Stamp, find_lost
 from .program.rows import BLOCKED, EMPTY, Traffic, to_array, measure_traffic
 
-__all__ = ["BLOCKED", "Car", "Count", "Crowd", "EMPTY", "Edit", "Ended", "Fault", "Head", "LabBroken", "LabError", "LabTimeout",
-           "Lost", "NoProgram", "Object", "Plan", "Refused", "RoadLab", "Stamp", "Traffic", "find_lost", "measure_traffic",
+__all__ = ["BLOCKED", "Car", "Count", "Crowd", "EMPTY", "Edit", "Ended", "Fault", "Head", "LabBroken", "LabCancelled", "LabError",
+           "LabTimeout", "Lost", "NoProgram", "Object", "Plan", "Refused", "RoadLab", "Stamp", "Traffic", "find_lost", "measure_traffic",
            "program_path", "to_array"]

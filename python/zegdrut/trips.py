@@ -6,4 +6,4 @@ from .figures.trips import (
     compute_travel_times_by_entry as compute_travel_times_by_entry, compute_vehicle_hours as compute_vehicle_hours,
     count_admitted_cars as count_admitted_cars, count_detector as count_detector, count_passings as count_passings,
     count_seconds_in as count_seconds_in, count_seconds_on as count_seconds_on, entry_inlet as entry_inlet, entry_step as entry_step,
-    list_arrivals as list_arrivals)
+    find_arrivals as find_arrivals, list_sites as list_sites)

@@ -47,6 +47,13 @@ pub(crate) struct Task<'g, G> {
 // A session's thread.
 type Worker<J> = PromisedHandle<SessionResult<J>, WritesShare>;
 
+// Let a session arrive at the gate. It has written nothing yet.
+fn arrive<J: Naming, G: Gate>(gate: &G, session: &Session<J>)
+    requires { session.now.view.own ≡ [] }
+{
+    gate.arrive(session.number());
+}
+
 // Run a thread: its session arrives at the gate, and then makes its writes. The session stays in the group `taking`
 // until it has taken its edits or has failed.
 fn run_session<J: Naming, R: Wait + Drop, W: Wait, G: Gate>(
@@ -63,7 +70,7 @@ fn run_session<J: Naming, R: Wait + Drop, W: Wait, G: Gate>(
         (λ after. work_of after ≡ (session.number, share_entries session.number share.now task.now.to)) }
 {
     let mut session = session;
-    task.gate.arrive(session.number());
+    arrive(task.gate, &session);
     work(rt, task.alloc, shared, &mut session, share, task.to, taking)?;
     Ok(session)
 }

@@ -38,8 +38,8 @@ use std::alloc::Global;
 use std::marker::Model;
 use std::sync::Arc;
 
-/// A replica: its number, and its sheet. Before a write returns, it recomputes every simulated step that it touches,
-/// with the crew that it is given. The meter counts the steps. A refused write leaves the replica unchanged.
+/// A replica: its number, and its sheet. A write lets the crew recompute every simulated step that it touches, before it
+/// is accepted. The meter counts the steps. A refused write leaves the replica unchanged.
 #[derive(Drop)]
 pub struct Replica {
     number: u32,

@@ -51,7 +51,7 @@ where
 /// # Errors
 ///
 /// `Missing` if these are not all sessions of the store, and no other error. The store and the sessions are then
-/// returned unchanged, and the locked value is not taken out.
+/// returned unchanged.
 pub fn close<J: Naming, R: Wait + Drop>(
     shared: Shared<J, R>,
     sessions: Vec<Session<J>>,

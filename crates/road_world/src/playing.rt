@@ -33,7 +33,8 @@ pub struct Played {
 
 /// Play some events, one after another, in the world of a plan and `replicas` replicas, at most 64. A refused event
 /// does nothing, and the events after it are still played. If an event fails for out of memory, that is its reply. The
-/// meter counts the steps of the accepted events, and of a refused event at most those that it finished.
+/// meter counts the steps of the accepted events. For events that are refused because memory ran out or a worker was
+/// lost, it also counts at most the steps that they may cost.
 ///
 /// # Errors
 ///

@@ -13,7 +13,7 @@ use crate::sessions::{self, Act, Closing, Command, SessionCase};
 use crate::sheets::{self, GrowthCase};
 use crate::steps::{self, Rows, RunCase};
 use crate::verdict::{Until, Verdict};
-use crate::worlds;
+use crate::worlds::{self, ListEvent};
 use road_cells::Car;
 use road_delta::Head;
 use road_detector::Totals;
@@ -54,7 +54,8 @@ pub(crate) enum Case {
     WorldOpening,
     /// The event at a place in the exchange.
     Event(usize),
-    List,
+    /// A list of events.
+    List(&'static [ListEvent]),
     StorePrepare,
     StoreOpen,
     /// A call of a session, and when its store is closed.
@@ -259,7 +260,8 @@ const WORLDS: &[(&str, Case)] = pairs![
     "world-take-again" => Case::Event(13),
     "world-withdraw" => Case::Event(14),
     "world-import" => Case::Event(15),
-    "world-play" => Case::List,
+    "world-play" => Case::List(worlds::EXCHANGE),
+    "world-play-crossed" => Case::List(worlds::CROSSED),
 ];
 
 // The calls of stores, sessions and crowds.
@@ -370,7 +372,7 @@ pub(crate) fn try_case<R: Threads + Wait + Clone + Drop + Send + 'static>(
         Case::Growth(case) => sheets::try_growth(alloc, until, &case),
         Case::WorldOpening => worlds::try_opening(alloc, until),
         Case::Event(place) => worlds::try_event(alloc, until, place),
-        Case::List => worlds::try_list(alloc, until),
+        Case::List(list) => worlds::try_list(alloc, until, list),
         Case::StorePrepare => sessions::try_prepare(rt, alloc, until),
         Case::StoreOpen => sessions::try_open(rt, alloc, until),
         Case::Session(case, closing) => sessions::try_session_call(

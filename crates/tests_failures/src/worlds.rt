@@ -113,6 +113,32 @@ pub(crate) const EXCHANGE: &[ListEvent] = &[
     ),
 ];
 
+// The row of a replica that is not simulated.
+const EMPTY_ROW: &str = "............";
+
+/// Two replicas set the limit for the same step, the second one over the first. The third replica takes the edit that
+/// wins before the one that loses, and shows the winner.
+pub(crate) const CROSSED: &[ListEvent] = &[
+    ListEvent(
+        0,
+        Act::Edit(LIMIT, 3, 1),
+        Reply::Stamped(stamp!(1, 0)),
+        EMPTY_ROW,
+    ),
+    ListEvent(0, Act::Send, Reply::Message(0), EMPTY_ROW),
+    ListEvent(1, Act::Take(0), Reply::Touched(Some(3)), EMPTY_ROW),
+    ListEvent(
+        1,
+        Act::Edit(LIMIT, 3, 2),
+        Reply::Stamped(stamp!(2, 1)),
+        EMPTY_ROW,
+    ),
+    ListEvent(1, Act::Send, Reply::Message(1), EMPTY_ROW),
+    ListEvent(2, Act::Take(1), Reply::Touched(Some(3)), EMPTY_ROW),
+    ListEvent(2, Act::Take(0), Reply::Touched(None), EMPTY_ROW),
+    ListEvent(2, Act::Advance(6), Reply::Horizon(6), "0..2...2...."),
+];
+
 // ---- what a world shows
 
 // Draw heads, as if they were edits that withdraw.
@@ -147,7 +173,7 @@ fn draw_message(alloc: Global, portrait: &mut Portrait, message: &Message) -> Op
     }
 }
 
-// Draw a world of three replicas. It has no more messages than the exchange has events.
+// Draw a world of three replicas. It has no more messages than the exchange, the longest list, has events.
 fn draw_world(alloc: Global, portrait: &mut Portrait, world: &World) -> Option<()> {
     for at in 0..3 {
         portrait.draw_sheet(alloc, world.replica(at)?.sheet())?;
@@ -162,7 +188,7 @@ fn draw_world(alloc: Global, portrait: &mut Portrait, world: &World) -> Option<(
 
 // Return the row that a replica shows after the events of a list.
 fn row_after(list: &[ListEvent], at: u32) -> &'static str {
-    let mut row = "............";
+    let mut row = EMPTY_ROW;
     for listed in list {
         if listed.0 == at {
             row = listed.3;
@@ -322,6 +348,7 @@ impl Refusal for ListFault {
 struct Playing {
     plan: Arc<Plan>,
     events: Vec<Event>,
+    list: &'static [ListEvent],
 }
 
 // Return the place of the first event that was refused, and why.
@@ -421,8 +448,8 @@ impl Call for Playing {
     }
 
     fn is_right(&mut self, alloc: Global, played: Played) -> Option<bool> {
-        let are_wanted = are_wanted(&played.replies, EXCHANGE);
-        Some(are_wanted && is_after(alloc, &played.world, EXCHANGE)?)
+        let are_wanted = are_wanted(&played.replies, self.list);
+        Some(are_wanted && is_after(alloc, &played.world, self.list)?)
     }
 }
 
@@ -435,9 +462,10 @@ fn events_of(alloc: Global, list: &[ListEvent]) -> Option<Vec<Event>> {
     Some(events)
 }
 
-/// Try the exchange as one list of events.
-pub(crate) fn try_list(alloc: Global, until: Until) -> Option<Verdict> {
+/// Try a list of events as one call.
+pub(crate) fn try_list(alloc: Global, until: Until, list: &'static [ListEvent]) -> Option<Verdict> {
     let plan = free_plan(alloc)?;
-    let events = events_of(alloc, EXCHANGE)?;
-    try_call(alloc, until, &mut Playing { plan, events })
+    let events = events_of(alloc, list)?;
+    let mut playing = Playing { plan, events, list };
+    try_call(alloc, until, &mut playing)
 }

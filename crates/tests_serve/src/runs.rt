@@ -101,6 +101,11 @@ const RUNS: &[Run] = pairs![
     ((3, 211), (7, ALL), (1000, ALL, ALL)) => (End::Whole, Some(53)),
     ((2, 1000), (7, ALL), (1000, ALL, ALL)) => (End::TooMany, Some(39)),
     ((3, 210), (7, ALL), (1000, ALL, ALL)) => (End::TooMany, Some(39)),
+    // A limit within the plan line, right before its newline, and right behind it.
+    ((3, 100), (7, ALL), (1000, ALL, ALL)) => (End::TooMany, Some(0)),
+    ((3, 120), (7, ALL), (1000, ALL, ALL)) => (End::TooMany, Some(0)),
+    ((3, 121), (7, ALL), (1000, ALL, ALL)) => (End::TooMany, Some(11)),
+    ((0, 1000), (7, ALL), (1000, ALL, ALL)) => (End::TooMany, Some(11)),
     ((3, 1000), (7, ALL), (14, ALL, ALL)) => (End::Write, Some(14)),
     ((3, 1000), (7, ALL), (1000, Failing::Once(1), ALL)) => (End::Write, Some(11)),
     ((3, 1000), (7, ALL), (1000, Failing::From(1), ALL)) => (End::Write, Some(11)),

@@ -1,10 +1,10 @@
-//! A worked list of events.
+//! Worked lists of events.
 
-use crate::worlds::{A1, A2, A3, Answer, B3, check_all_edits, play_and_check};
+use crate::worlds::{A1, A2, A3, Answer, B3, check_all_edits, check_all_rows, play_and_check};
 use road_delta::Head;
 use road_replica::Reply;
 use road_scenario::{Edit, Stamp, Value};
-use road_world::{Event, Message, World};
+use road_world::{Event, Message, World, WorldFault};
 use std::process::Abort;
 use std::test::Fail;
 use tests_plans::{BLOCK, LIMIT, answered_events, edit, head};
@@ -52,5 +52,27 @@ fn a_replica_is_sent_what_it_lacks(rt: HostRuntime) -> Result<(), Fail> {
             (1, &[CLOSED, CLOSED_LATER, BLOCKED]),
             (2, &[CLOSED_LATER, BLOCKED]),
         ],
+    )
+}
+
+/// Refused events among accepted ones. The first message is empty, and it is made after somebody has asked for it.
+const REFUSED_BETWEEN: ([Event; 6], [Answer; 6]) = answered_events![
+    advance(0, 6) => Ok(Reply::Horizon(6)),
+    advance(7, 1) => Err(WorldFault::NoReplica),
+    take(1, 0) => Err(WorldFault::NoMessage),
+    send(0) => Ok(Reply::Message(0)),
+    take(1, 0) => Ok(Reply::Touched(None)),
+    advance(1, 3) => Ok(Reply::Horizon(3)),
+];
+
+#[test]
+fn refused_events_do_not_end_a_list(rt: HostRuntime) -> Result<(), Fail> {
+    let (events, answers) = REFUSED_BETWEEN;
+    let played = play_and_check(&rt, rt.alloc(), &events, &answers)?;
+    check_all_rows(
+        &rt,
+        rt.alloc(),
+        &played.world,
+        &[(1, &[(3, ".1...2......")])],
     )
 }

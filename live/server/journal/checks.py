@@ -4,8 +4,8 @@ The form of an operation was checked when it was read, by `model.reading`.
 """
 from __future__ import annotations
 
-from ..model.operations import SEATS, Operation, RawName, Shape, Stamp, is_raw
-from ..model.reading import MOST_OBJECTS, why_too_large
+from ..model.operations import SEATS, Json, Operation, RawName, Shape, Stamp, is_raw
+from ..model.reading import MOST_OBJECTS, read_operation, why_too_large
 from ..tabs.refusals import Refused, not_a_command
 
 from zegdrut.program.grammar import KINDS, LAST_STEP
@@ -19,6 +19,13 @@ class Checks:
     def __init__(self, plan: PlanLine) -> None:
         self._reasons = Reasons()
         self._reasons.accept(plan, {"open": 1})
+
+    def read(self, written: Json) -> Operation:
+        """Return the operation that a JSON value describes, whoever made it: so each site takes what is confirmed at another, and a
+        start reads it. Raise `Malformed` or `Refused` if it is not one for this plan."""
+        one = read_operation(written)
+        self.check_operation(one)
+        return one
 
     def check_operation(self, one: Operation) -> None:
         """Raise `Refused` if an operation does not fit this plan, is larger than the limits allow, or undoes an operation and does

@@ -15,20 +15,18 @@ import os
 import secrets
 import time
 from pathlib import Path
-from typing import Awaitable, Callable, Dict, Iterable, Mapping, TypeVar, Union
+from typing import Awaitable, Callable, Iterable, Mapping, TypeVar, Union
 
 from zegdrut.program.grammar import LAST_HORIZON
-from zegdrut.program.wire import ReplyFields
 
 from ..background.listeners import Listeners
 from ..background.settings import Settings
 from ..background.supervised import supervise
 from ..model.operations import Json, Operation
 from ..model.road import Road
-from ..roads.program import ProgramExited, Program, command_of, start
+from ..roads.program import ProgramExited, Program, Times, command_of, start
 from ..roads.screen import Differences, Screen
 from ..roads.turns import MORE, Job, More, Turns
-from ..tabs.asked import explain_refusal
 from ..tabs.refusals import Refused
 from .journal import CannotStart, CorruptJournal, Entries, JournalLine, Journal, NotWritten, explain_fault, to_json, put_in_place, sync_folder
 from .records import JOURNAL_FORM, AnyEntry, Clock, Folder, Made, Upgraded, read_plan_line
@@ -41,8 +39,6 @@ STALLS = 5.0  # seconds without an answer of the disk after which the page says 
 A_MOMENT = 1.0  # seconds that a try of the disk may keep others waiting
 SHARED = 0
 T = TypeVar("T")
-Times = Dict[str, float]
-"""How an answer took its time: seconds by cause, such as the program or the disk."""
 
 
 class NotKept(Refused):
@@ -128,6 +124,8 @@ class Keeper:
 
     async def compact(self) -> None:
         """Shorten the journal: write the present state, with each operation once."""
+        for seat in self.state.seats[1:]:
+            self.state.forget_keys(seat)
         await self.journal.compact(lambda: (entry.written() for entry in (*self.state.entries(), *self._unapplied.values())))
 
     async def shorten_journal(self) -> None:
@@ -205,10 +203,13 @@ class Keeper:
 
     @property
     def trouble(self) -> str | None:
-        """Return a sentence that says what is wrong with the disk; None if nothing is."""
+        """Return a sentence that says what is wrong with the disk or the journal; None if nothing is."""
         if self._trouble is None and self._is_stalled:
             return (f"the disk has not answered for {STALLS:g} seconds: new changes are pending until it does; confirmed changes "
                     f"can still be viewed")
+        if self._trouble is None and self.state.unreadable:
+            return (f"{len(self.state.unreadable)} changes in the journal cannot be read ({self.state.unreadable[0].why}): they are kept, "
+                    f"but have no effect")
         return self._trouble
 
     async def _watch_disk(self) -> None:
@@ -426,20 +427,7 @@ class Keeper:
 
     async def say_all(self, lines: list[bytes], times: Times) -> list[bytes]:
         """Return the program's replies to lines that are sent at once; raise the first refusal."""
-        began = time.perf_counter()
-        replies = await self.program.ask_all(lines)
-        times["program"] = times.get("program", 0) + time.perf_counter() - began
-        for line, reply in zip(lines, replies):
-            if reply.startswith(b'{"refused"'):
-                self.refuse(line, json.loads(reply), self.program)
-        return replies
-
-    def refuse(self, line: bytes, reply: ReplyFields, program: Program) -> None:
-        """Raise the refusal in a program's reply, with a sentence that explains it."""
-        (_, fields), = json.loads(line).items()
-        at = str(fields.get("at"))
-        why = explain_refusal(self.state.plan, at, program.horizons.get(at, 0), line, reply)
-        raise Refused(reply["refused"], why)
+        return await self.program.say_all(lines, times)
 
     def now(self) -> int:
         """Return the step at which the road's clock is."""

@@ -17,14 +17,16 @@ from ..model.choices import find_overruling, sendable, find_undoable, would_chan
 from ..model.demands import kept_demand, written_demand
 from ..model.operations import (About, Json, Operation, RawName, Shape, Stamp, edit, exclude, sort_by_stamp, lift, put, restamp,
                                undo)
+from ..model.reading import Malformed
 from ..model.road import Road, change, repeat, is_standing
+from ..roads.program import Times
 from ..roads.screen import first_step
 from ..tabs.asked import RawEdit
 from ..tabs.lines import Act, Lister
-from ..tabs.refusals import Refused
+from ..tabs.refusals import Refused, not_a_command
 from ..tabs.seating import Seating
 from .checks import Checks
-from .keeper import SHARED, Keeper, Times
+from .keeper import SHARED, Keeper
 from .records import Bound, Came, CameBack, Made, Share, StampedAnew, Take, Works
 from .state import Replica, SeatReplica, State
 from .timing import Timing
@@ -228,7 +230,10 @@ class Lab:
         except ValueError:
             raise Refused("Count", "the change that you want to change is stamped more than a day ahead of the clock: wait until that "
                           "day") from None
-        self.check(one)
+        try:
+            one = self.read(one.written())
+        except Malformed as fault:
+            raise not_a_command(f"no site would take this change: {fault}") from None
         if one.site in seat.road.record.excluded:
             raise Refused("SiteExcluded", "this site is excluded: changes made here have no effect until another site includes it again")
         after = seat.road.adding([one])
@@ -268,15 +273,15 @@ class Lab:
         """Return the lines that have changed since a version of the list, and what undo and redo would do."""
         marks = replica.begin_list()
         lines, after = Lister(self.state, replica).lines_since(marks, version - replica.begun, LIST_AT_ONCE)
-        found = find_undoable(replica.road, replica.number)
+        found = find_undoable(replica.road, replica.own)
         return {"layers": lines, "since": version, "next": replica.version if after is None else replica.begun + after,
                 "more": after is not None, "undo": found.undo and found.undo.stamp, "redo": found.redo and found.redo.stamp,
-                "blocked": self._blocked(replica.road, found.blocked)}
+                "blocked": self._blocked(replica, found.blocked)}
 
-    def _blocked(self, road: Road, some: list[Operation]) -> list[ReplyFields]:
+    def _blocked(self, replica: Replica, some: list[Operation]) -> list[ReplyFields]:
         """Return the seat's operations that undo skips, each with the names of those who changed its line since."""
-        return [{"stamp": one.stamp, "by": sorted({other.about.who for other in find_overruling(road, one)
-                                                   if other.stamp[1] != one.stamp[1]})} for one in some[:MOST_BLOCKED]]
+        return [{"stamp": one.stamp, "by": sorted({other.about.who for other in find_overruling(replica.road, one)
+                                                   if other not in replica.own})} for one in some[:MOST_BLOCKED]]
 
     # What is shared
 
@@ -288,7 +293,7 @@ class Lab:
                 await write.require_writable()
                 self._restamp_early(seat, write)
             chosen = None if stamps is None else {seat.renamed.get(stamp, stamp) for stamp in stamps}
-            given = seat.shareable() if chosen is None else sendable(seat.road, shared.road, seat.number, chosen)
+            given = seat.shareable() if chosen is None else sendable(seat.road, shared.road, seat.own, chosen)
             before = shared.road
             if given:
                 await write.require_writable()
@@ -334,7 +339,7 @@ class Lab:
     # What comes from other sites
 
     async def receive(self, operations: list[Operation], title: str, times: Times) -> bool:
-        """Hold operations of another site, which have passed `check`, on the shared road. Return whether any was new. `times` gets the
+        """Hold operations of another site, as `read` returns them, on the shared road. Return whether any was new. `times` gets the
         seconds of `work`."""
         async def make(write: Write) -> int | None:
             shared = self.state.shared
@@ -357,9 +362,9 @@ class Lab:
         self.keeper.listeners.shared.notify(touched)
         return True
 
-    def check(self, one: Operation) -> None:
-        """Raise `Refused` if an operation, of a seat or of another site, is not one that every site takes."""
-        self._checks.check_operation(one)
+    def read(self, written: Json) -> Operation:
+        """Return an operation of a seat or of another site. Raise `Malformed` or `Refused` if it is not one that every site takes."""
+        return self._checks.read(written)
 
     async def bind(self, number: int, folder: str) -> None:
         """Bind a site's number to a folder, in the journal."""

@@ -17,7 +17,7 @@ from zegdrut.program.grammar import PLAN, check_fields
 from zegdrut.program.wire import PlanLine
 
 from ..model.operations import Json, Operation, Stamp
-from ..model.reading import GREATEST_COUNT, Malformed, read_operation, read_row, read_stamp, read_time, whole
+from ..model.reading import GREATEST_COUNT, Malformed, read_kept_operation, read_row, read_stamp, read_time, whole
 
 if TYPE_CHECKING:
     from .state import State
@@ -175,9 +175,14 @@ def pairs_format(read_key: Callable[[Json], T], write_key: Callable[[T], Json]) 
     return field_format(read_all, write_all)
 
 
+def write_operation(one: Operation) -> Json:
+    return one.written()
+
+
 TEXT_FORMAT, TIME_FORMAT, NUMBER_FORMAT = unconverted(read_string), unconverted(read_time), unconverted(read_number)
 SEAT_FORMAT, SITE_FORMAT, STEP_FORMAT = count_format(MOST_SEATS - 1, "seat"), count_format(1_023, "site"), count_format(1 << 30, "step")
 COUNT, PLACE = count_format(GREATEST_COUNT, "count"), count_format(1 << 40, "place")
+OPERATION_FORMAT = field_format(read_kept_operation, write_operation)
 STAMPS = list_format(read_stamp, lambda stamp: [*stamp])
 SHARED_FORMAT, UNSENT_FORMAT = (unconverted(lambda value: value is True, name) for name in ("shared", "unsent"))
 
@@ -272,7 +277,7 @@ class Made(Entry):
 
     kind = "made"
     seat: int = field(metadata=SEAT_FORMAT)
-    operation: Operation = field(metadata=field_format(read_operation, Operation.written))
+    operation: Operation = field(metadata=OPERATION_FORMAT)
     key: str | None = field(default=None, metadata=TEXT_FORMAT)
     is_shared: bool = field(default=False, metadata=SHARED_FORMAT)
     is_unsent: bool = field(default=False, metadata=UNSENT_FORMAT)
@@ -322,7 +327,7 @@ class Came(Entry):
     """Operations came from other sites; or they are from this site, but their seat was freed."""
 
     kind = "came"
-    operations: Sequence[Operation] = field(metadata=list_format(read_operation, Operation.written))
+    operations: Sequence[Operation] = field(metadata=list_format(read_kept_operation, write_operation))
     who: str = field(default="", metadata=TEXT_FORMAT)
     title: str = field(default="", metadata=TEXT_FORMAT)
     when: float = field(default=0, metadata=TIME_FORMAT)

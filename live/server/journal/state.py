@@ -18,7 +18,8 @@ from zegdrut.program.wire import PlanLine
 
 from ..model.changes import all_lines, find_altered_lines, lines_of, operations_on
 from ..model.choices import find_forgettable, shareable
-from ..model.operations import SEATS, Operation, Stamp, is_raw, intern_int, restamp
+from ..model.operations import SEATS, Operation, Stamp, Unreadable, is_raw, intern_int, restamp
+from ..model.reading import Malformed
 from ..model.road import Road
 from .former_journal import Former
 from .journal import CorruptJournal
@@ -29,8 +30,10 @@ from .stamps import StampClock
 TAB_FORM = 4  # the protocol of tabs
 SITE_FORM = 3  # the protocol of sites
 MOST_NEWS = 100
+MOST_FORGOTTEN_KEYS = 1_000  # keys of a seat whose operations were forgotten
 APPLIED_AT_ONCE = 100  # operations that are applied before others get a turn
 LAYERS_PER_UNIT = 12  # layers of an operation that count as one more operation
+MOST_UNREADABLE = 10  # operations of a journal that cannot be read; with more, the server does not start
 MOST_SHARED_ROADS = 8  # values of the shared road that are kept for seats that take
 
 NO_PLAN: PlanLine = {"length": 0, "inlets": (), "zones": (), "zone": 0, "exit": 0, "detectors": (), "words": 0, "replicas": ()}
@@ -65,6 +68,7 @@ class Replica:
         self.index, self._state = index, state
         self.begun = self.version = state.begun  # the first and the present version of its list
         self.marks: dict[Stamp, int] | None = None  # line -> version of its last change, relative to `begun`
+        self.own: dict[Operation, None] = {}  # made at this seat, in order
         self.places: dict[Operation, int] = {}  # operation -> its place in order of arrival
         self.size: int = 0  # how many operations it holds
         self._road: Road | None = None
@@ -151,8 +155,8 @@ class SharedReplica(Replica):
         return fresh
 
     def operations(self, first: int = 0, end: int | None = None) -> list[Operation]:
-        """Return its operations in order of arrival, from place `first` to before `end`."""
-        return self._order[first:end]
+        """Return its operations in order of arrival, from place `first` to before `end`, except those that cannot be read."""
+        return [one for one in self._order[first:end] if not isinstance(one, Unreadable)]
 
     def upto(self, size: int) -> Road:
         """Return the road of the first `size` operations."""
@@ -188,7 +192,6 @@ class SeatReplica(Replica):
         self.count = count  # the greatest count in its stamps
         self.upto = 0  # how many operations of the shared road it has taken
         self.used: float = 0  # when it last had a tab, in seconds since 1970, in seconds since 1970
-        self.own: dict[Operation, None] = {}  # made at this seat, in order
         self.done: dict[str, Stamp] = {}  # its operations by their keys
         self.renamed: dict[Stamp, Stamp] = {}  # the stamps of operations that were stamped again
         self.idle: frozenset[Operation] = frozenset()  # private ones that need not be shared, as the list shows
@@ -220,7 +223,7 @@ class SeatReplica(Replica):
             return []
         road, shared = self.road, self._state.shared.road
         if self._shareable is None or self._shareable[0] is not road or self._shareable[1] is not shared:
-            self._shareable = road, shared, shareable(road, shared, self.number, self._all_shared(shared))
+            self._shareable = road, shared, shareable(road, shared, self.own, self._all_shared(shared))
         return self._shareable[2]
 
     def _all_shared(self, shared: Road) -> Road:
@@ -235,7 +238,7 @@ class SeatReplica(Replica):
     def look_for_idle(self) -> None:
         """Mark the lines whose operations have become idle, or are no longer idle."""
         given = set(self.shareable())
-        idle = frozenset(one for one in self._state.private(self) if one not in given)
+        idle = frozenset(one for one in self._state.private(self) if one not in given and one in self.road)
         changed, self.idle = idle ^ self.idle, idle
         self.mark(sorted({line for one in changed if one in self.places for line in lines_of(self.road, one)}))
 
@@ -254,6 +257,7 @@ class State:
         self.plan: PlanLine = NO_PLAN
         self.site, self.folder, self.form = 0, "", JOURNAL_FORM
         self.bound: dict[int, str] = {}  # site's number -> the folder that had it first
+        self.makers: dict[Operation, int] = {}  # the seats that made operations
         self.unsent: dict[Operation, None] = {}  # shared at this site, but not yet returned by the broker
         self.titles: dict[Operation, str] = {}  # the title under which an operation was shared
         self.shares: list[News] = []
@@ -261,6 +265,7 @@ class State:
         self.rate: float = 0
         self.now = 0
         self.stop: int | None = None
+        self.unreadable: list[Unreadable] = []  # operations of the journal that are kept aside
         self.by_stamp: dict[Stamp, Operation] = {}
         self._twins: dict[Stamp, tuple[Operation, ...]] = {}  # other operations with the same stamp
         self._greatest, self._later = 0, list[int]()  # the greatest count not too far ahead of the clock, and those beyond
@@ -297,7 +302,12 @@ class State:
         self.form, self._former = JOURNAL_FORM, None
 
     def intern(self, one: Operation) -> Operation:
-        """Return the equal operation that is already held, or this one."""
+        """Return the equal operation that is already held, or this one. Note an unreadable one; raise `Malformed` if there are too many."""
+        if isinstance(one, Unreadable):
+            self.unreadable.append(one)
+            if len(self.unreadable) > MOST_UNREADABLE:
+                raise Malformed(f"more than {MOST_UNREADABLE} operations cannot be read, of this one {one.why}")
+            return one
         known = self.of_stamp(one.stamp)
         found = next((other for other in known if other.is_same(one)), None)
         if found is None:
@@ -321,7 +331,7 @@ class State:
 
     def hold_own(self, seat: SeatReplica, one: Operation) -> None:
         """Let a seat hold an operation of its own."""
-        seat.own[one] = None
+        seat.own[one], self.makers[one] = None, seat.index
         seat.hold([one])
         self._raise_count(one)
 
@@ -334,7 +344,7 @@ class State:
                 self.unsent[one] = None
             if title:
                 self.titles[one] = title
-            seat = self.seats[one.stamp[1] % SEATS]
+            seat = self.seats[self.makers.get(one, 0)]
             if one in seat.own and seat.marks is not None:
                 seat.mark(sorted(lines_of(seat.road, one)))  # it is not private any more
         return fresh
@@ -353,6 +363,8 @@ class State:
     def free(self, index: int, count: int) -> None:
         old = self.seats[index]
         self.lately.pop(index, None)
+        for one in old.own:
+            del self.makers[one]
         self.seats[index] = SeatReplica(index, self, max(old.count, count))
 
     def add_news(self, news: News) -> None:
@@ -374,6 +386,10 @@ class State:
     def private(self, seat: SeatReplica) -> list[Operation]:
         """Return the seat's own operations that have not been shared."""
         return [one for one in seat.own if one not in self.shared.places]
+
+    def has_private(self, seat: SeatReplica) -> bool:
+        """Return whether freeing a seat would lose changes: private ones that would change the shared road, or that cannot be read."""
+        return bool(seat.shareable()) or any(isinstance(one, Unreadable) for one in self.private(seat))
 
     def unseen(self, seat: SeatReplica, upto: int | None = None) -> list[Operation]:
         """Return the shared operations that the seat has not taken and does not hold already."""
@@ -399,7 +415,7 @@ class State:
 
     def _drop(self, seat: SeatReplica, one: Operation) -> None:
         """Drop a private operation."""
-        del seat.own[one], seat.places[one]
+        del seat.own[one], seat.places[one], self.makers[one]
         self._set_stamp(one.stamp, tuple(other for other in self.of_stamp(one.stamp) if other is not one))
 
     def forget(self, seat: SeatReplica, kept: int) -> None:
@@ -407,7 +423,7 @@ class State:
         private = self.private(seat)
         if len(private) <= kept:
             return
-        gone = find_forgettable(seat.road, self.shared.road, seat.number, kept) & set(private)
+        gone = find_forgettable(seat.road, self.shared.road, seat.own, kept) & set(private)
         if not gone:
             return
         lines = {line for one in gone for line in lines_of(seat.road, one)}
@@ -415,6 +431,12 @@ class State:
         for one in gone:
             self._drop(seat, one)
         seat.rebuild_without(lines, others - gone)
+
+    def forget_keys(self, seat: SeatReplica) -> None:
+        """Drop keys whose operations were forgotten, except the newest."""
+        held = {*self.by_stamp, *(one.stamp for one in self.unreadable)}
+        for key in [key for key, stamp in seat.done.items() if stamp not in held][:-MOST_FORGOTTEN_KEYS]:
+            del seat.done[key]
 
     # Compaction
 
@@ -429,7 +451,7 @@ class State:
                 yield SeatGiven(seat.index, seat.name, seat.key, seat.used, seat.count)
             elif seat.count:
                 yield SeatFreed(seat.index, seat.count)
-        for one in self.shared.operations():
+        for one in self.shared.places:
             yield self._shared_entry(one)
         yield AllNews(self.shares)
         if self.works:
@@ -442,7 +464,6 @@ class State:
                 yield Keys(seat.index, seat.done)
 
     def _shared_entry(self, one: Operation) -> AnyEntry:
-        own = self.seats[one.stamp[1] % SEATS]
-        if one.stamp[1] // SEATS == self.site and one in own.own:
-            return Made(own.index, one, is_shared=True, is_unsent=one in self.unsent, title=self.titles.get(one, ""))
+        if one in self.makers:
+            return Made(self.makers[one], one, is_shared=True, is_unsent=one in self.unsent, title=self.titles.get(one, ""))
         return Came([one], title=self.titles.get(one, ""), is_unsent=one in self.unsent)

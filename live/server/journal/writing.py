@@ -11,8 +11,9 @@ import asyncio
 import time
 from typing import Awaitable
 
+from ..roads.program import Times
 from .journal import NotWritten
-from .keeper import Keeper, NotKept, Times
+from .keeper import Keeper, NotKept
 from .records import AnyEntry
 
 

@@ -157,6 +157,17 @@ class Operation:
         return json.dumps(self.written(), sort_keys=True)
 
 
+@dataclass(frozen=True, eq=False, slots=True)
+class Unreadable(Operation):
+    """An operation of a journal that this server cannot read. It keeps its place and its key, and is in no road."""
+
+    value: Mapping[str, Json] = field(default_factory=lambda: NO_MORE)  # as the journal has it
+    why: str = ""
+
+    def written(self) -> dict[str, Json]:
+        return dict(self.value)
+
+
 def sort_by_stamp(operations: Iterable[Operation]) -> list[Operation]:
     """Return operations in the order of their stamps; twins in the order of their texts."""
     found = sorted(operations, key=lambda one: one.stamp)

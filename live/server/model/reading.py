@@ -7,9 +7,11 @@ from __future__ import annotations
 
 import json
 import sys
+import unicodedata
 from typing import Callable, Mapping, Sequence, TypeVar
 
-from .operations import (NO_MORE, About, Json, Name, Operation, RawName, Shape, Stamp, is_line, is_raw, raw_shape, intern_int)
+from .operations import (NO_MORE, About, Json, Name, Operation, RawName, Shape, Stamp, Unreadable, is_line, is_raw, raw_shape,
+                         intern_int)
 
 GREATEST_COUNT, GREATEST_NUMBER, GREATEST_VALUE = 1 << 48, 65_535, (1 << 32) - 1
 MOST_RAW = 1_200  # raw edits of an operation
@@ -18,6 +20,7 @@ MOST_OBJECTS = 600  # objects of all shapes of an operation
 MOST_MORE = 1_000  # bytes of fields that this version does not know
 LONGEST_NAME, LONGEST_NOTE = 64, 200  # characters
 SITES = range(1, 1_024)
+CONTROLS = frozenset({"Cc", "Cf", "Co", "Cs"})  # control characters, direction marks, private characters and lone surrogates
 KNOWN = ("stamp", "sets", "heights", "undoes", "seen", "excludes", "who", "note", "when", "shape")
 T = TypeVar("T")
 
@@ -46,6 +49,20 @@ def read_operation(value: Json) -> Operation:
     if fault_of_size or one.is_empty:
         raise Malformed(fault_of_size or "the operation does nothing")
     return one
+
+
+def read_kept_operation(value: Json) -> Operation:
+    """Return the operation of a journal. One that is malformed is kept aside, as an `Unreadable`."""
+    try:
+        return read_operation(value)
+    except Malformed as fault:
+        if not isinstance(value, dict):
+            raise
+        try:
+            stamp = read_stamp(value.get("stamp"))
+        except Malformed:
+            stamp = 0, 0
+        return Unreadable(stamp, value=value, why=str(fault))
 
 
 def why_too_large(one: Operation) -> str | None:
@@ -148,9 +165,16 @@ def word(value: Json) -> str:
 
 def read_text(value: Mapping[str, Json], name: str, most: int) -> str:
     text = value.get(name, "")
-    if type(text) is not str or len(text) > most:
-        raise Malformed(f"`{name}` must be a string of at most {most} characters")
+    if type(text) is not str or clean_text(text, most) != text:
+        raise Malformed(f"`{name}` must be a string of at most {most} characters for one line, without control characters")
     return sys.intern(text)
+
+
+def clean_text(value: object, most: int) -> str:
+    """Return a text of at most `most` characters for one line: words with single spaces between them, without control characters,
+    direction marks and lone surrogates. A clean text stays as it is."""
+    plain = "".join(sign for sign in str(value)[:8 * most] if sign.isspace() or unicodedata.category(sign) not in CONTROLS)
+    return " ".join(plain.split())[:most].rstrip()
 
 
 def read_time(value: Json) -> float:

@@ -12,7 +12,7 @@ from typing import AbstractSet, Callable, Iterable
 
 from .counting import NO_OPERATIONS, Record, insert_in_order
 from .layers import Layer, Stretch, sort_from_top, touches
-from .operations import END, NOTHING, About, Name, Operation, RawName, Shape, Stamp, sort_by_stamp, is_line, is_raw, line_of
+from .operations import END, NOTHING, About, Name, Operation, RawName, Shape, Stamp, Unreadable, sort_by_stamp, is_line, is_raw, line_of
 
 Plan = Callable[[str, int], "int | None"]
 """Returns the plan's value of an object, given its kind and index; None for the kind `start`, for which the plan has no value."""
@@ -69,7 +69,7 @@ class Road:
 
     def adding(self, operations: Iterable[Operation]) -> Road:
         """Return the road with these operations added; this road itself if it holds them all."""
-        some = [one for one in operations if one not in self.record]
+        some = [one for one in operations if one not in self.record and not isinstance(one, Unreadable)]
         if not some:
             return self
         road = self.copy()

@@ -17,7 +17,8 @@ from ..journal.journal import CannotStart, to_json
 from ..journal.lab import Lab
 from ..model.demands import INFLOW
 from ..model.operations import END, Json, Shape
-from ..tabs.asked import LONGEST_NAME, CommandFields, clean_text
+from ..model.reading import LONGEST_NAME, clean_text
+from ..tabs.asked import CommandFields
 from ..tabs.refusals import Refused
 
 FREEWAY_FILE = "freeway.json"  # the file of a folder with the freeway in km that it began with

@@ -12,12 +12,15 @@ import contextlib
 import json
 import os
 import shutil
+import time
 from pathlib import Path
-from typing import Mapping, Sequence
+from typing import Dict, Mapping, Sequence
 
+from zegdrut.program.refusals import Reasons
 from zegdrut.program.wire import WrittenEdit
 
 from ..journal.journal import to_json
+from ..tabs.refusals import Refused
 
 LONGEST_REPLY = 1 << 26
 IMPORT_EDITS = 1_200  # edits of an import, so that its line has at most 65,536 bytes
@@ -25,6 +28,10 @@ STEPS = 2_000  # steps that are simulated at a time, so that other seats get the
 IDLE_PATIENCE = 10.0  # seconds without processor time after which a program that owes an answer is ended
 LOOKS_AT_IDLE = 8  # how often the program is looked at in that time
 LONG_ROAD = 4_096  # cells from which on two threads are faster than one; more than two are not, on a machine that does other work
+
+
+Times = Dict[str, float]
+"""How an answer took its time: seconds by cause, such as the program or the disk."""
 
 
 class ProgramExited(Exception):
@@ -56,8 +63,8 @@ def import_lines(at: str, edits: Sequence[WrittenEdit]) -> list[dict[str, object
 class Program:
     """A process of road_lab. `lines` counts the lines that it has read; `horizons` has the step up to which each replica has run."""
 
-    def __init__(self, process: asyncio.subprocess.Process) -> None:
-        self._process, self.lines = process, 0
+    def __init__(self, process: asyncio.subprocess.Process, plan: bytes) -> None:
+        self._process, self._plan, self.lines = process, plan, 0
         self._read = 0  # replies
         self._watch: asyncio.TimerHandle | None = None
         self._fault: str | None = None
@@ -92,6 +99,25 @@ class Program:
             status = await self._process.wait()
             raise ProgramExited(self._fault or f"the program ended with status {status}")
         return [reply[:-1] for reply in replies]
+
+    async def say_all(self, lines: Sequence[bytes], times: Times) -> list[bytes]:
+        """Send lines all at once, return their replies, and add the time that they took. Raise the first refusal."""
+        began = time.perf_counter()
+        replies = await self.ask_all(lines)
+        times["program"] = times.get("program", 0) + time.perf_counter() - began
+        for line, reply in zip(lines, replies):
+            if reply.startswith(b'{"refused"'):
+                raise self._explain(line, reply)
+        return replies
+
+    def _explain(self, line: bytes, reply: bytes) -> Refused:
+        """Return a refusal by the program, with a sentence that says why."""
+        (_, fields), = json.loads(line).items()
+        at, refused = str(fields.get("at")), json.loads(reply)
+        horizon, reasons = self.horizons.get(at, 0), Reasons()
+        reasons.hear(self._plan, {"open": 1})
+        reasons.hear(to_json({"advance": {"at": at, "to": horizon}}).encode(), {"horizon": horizon})
+        return Refused(refused["refused"], reasons.hear(line, refused) or f"the program refused it: {refused['refused']}")
 
     def _look(self, before: object, idle: int) -> None:
         """While the program owes an answer, look at intervals whether it does anything. End it if it hangs."""
@@ -146,7 +172,7 @@ async def start(command: list[str], plan: bytes) -> Program:
             start_new_session=True)
     except OSError as fault:
         raise ProgramExited(f"the program cannot be started: {fault}") from None
-    program = Program(process)
+    program = Program(process, plan)
     reply = json.loads(await program.ask(plan))
     program.lines = 0
     if "open" not in reply:

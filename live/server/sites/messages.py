@@ -6,7 +6,7 @@ from typing import Mapping
 
 from ..journal.journal import to_json
 from ..model.operations import Json
-from ..tabs.asked import clean_text
+from ..model.reading import clean_text
 
 LONGEST_HASH = 40
 NUMBERS = range(1, 1_024)

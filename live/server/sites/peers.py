@@ -12,7 +12,7 @@ from typing import Callable, Iterator, NamedTuple, Sequence, TypedDict
 from ..journal.lab import Lab
 from ..journal.state import SITE_FORM, State
 from ..model.operations import Json
-from ..tabs.asked import clean_text
+from ..model.reading import clean_text
 from ..tabs.refusals import Refused
 from .floods import drop_oldest
 

@@ -14,21 +14,22 @@ import itertools
 import logging
 import secrets
 import time
+from time import thread_time
 from types import TracebackType
 from typing import TYPE_CHECKING, Callable, Deque, Iterator, Mapping, NamedTuple, Sequence
 
 from ..background.supervised import supervise
 from ..journal.journal import to_json
-from ..journal.keeper import SHARED, Times
+from ..journal.keeper import SHARED
 from ..journal.lab import FutureStamp, Lab
 from ..journal.state import SITE_FORM, State
-from ..model.operations import Json, Operation
+from ..model.operations import Json, Operation, Unreadable
 from ..model.projection import Edits
-from ..model.reading import Malformed, read_operation
+from ..model.reading import LONGEST_NOTE, Malformed, clean_text
 from ..model.road import Road
-from ..tabs.asked import LONGEST_NAME, LONGEST_NOTE, clean_text
+from ..roads.program import Times
 from ..tabs.refusals import Refused
-from .brokers import broker_of, connack_string, new_client
+from .brokers import HEADER, LONGEST_MESSAGE, broker_of, explain_refusal, keep_connected, longest_packet, new_client
 from .floods import FLOOD, STRANGERS, UNSEALED, Floods, drop_oldest
 from .messages import InvalidMessage, form_of, read_message, site_of, sum_of
 from .peers import ANNOUNCE_EVERY, BrokerState, Peers, Site
@@ -38,11 +39,9 @@ if TYPE_CHECKING:
     import paho.mqtt.client as mqtt
 
 LONGEST_RESEND_PAUSE = 300.0  # seconds after which an operation is sent again at the latest
-LONGEST = 2_000_000  # bytes of a message
 LARGE_MESSAGE = 100_000  # bytes; a longer message is read in a thread
-MESSAGE_BYTES = 500_000  # bytes, approximately, of the operations in a message
 OPERATIONS_AT_ONCE = 500  # operations that are sent, or taken, without a pause
-READ_FOR = 0.02  # seconds for reading operations until others get their turn
+READ_FOR = 0.002  # seconds of processor time for reading operations, until others get twice as long
 MOST_SENTENCES, MOST_STAY = 5, 20  # sentences that are shown: said once, and true at present
 MOST_EARLY, LONGEST_EARLY = 1_000, 2_000_000  # operations that wait until their day comes, and their bytes
 SITES_TOPIC = "road/sites"
@@ -69,7 +68,7 @@ class Sites:
         self._road, self._id, self._run = lab.keeper.reference, lab.keeper.state.folder, secrets.token_hex(4)
         self._broker = broker_of(options.broker)
         self._seal = Seal(self._id, key_of(options.site_key) if options.site_key else None, lab.keeper.folder / "seen.json")
-        self._connected = False
+        self._connected, self._longest = False, LONGEST_MESSAGE  # the longest packet that the broker takes, in bytes
         self._peers = Peers(lab, self._run, self._road, self._say, lambda: self._tell())
         self._keeper.stamps.follow(self._peers.seconds_ahead)
         self._told: Deque[str] = collections.deque(maxlen=MOST_SENTENCES)
@@ -89,9 +88,7 @@ class Sites:
 
     async def __aenter__(self) -> Sites:
         self._loop = asyncio.get_running_loop()
-        host, port = self._broker
-        self._client.connect_async(host, port, keepalive=30)
-        self._client.loop_start()
+        keep_connected(self._client, *self._broker)
         self._tasks = [supervise("the announcements to other sites", self._announce_forever, self._keeper.report_end)]
         return self
 
@@ -141,18 +138,19 @@ class Sites:
 
     # What the broker's thread calls
 
-    def _on_connect(self, client: mqtt.Client, _data: object, _flags: object, code: int) -> None:
+    def _on_connect(self, client: mqtt.Client, _data: object, _flags: object, code: object, properties: object) -> None:
         if code == 0:
+            self._longest = longest_packet(properties)
             client.subscribe([(f"road/{self._road}/operations", 1), (f"road/{self._road}/sum", 0), (SITES_TOPIC, 0)])
-        self._loop.call_soon_threadsafe(self._is_connected, code)
+        self._loop.call_soon_threadsafe(self._is_connected, None if code == 0 else explain_refusal(code))
 
-    def _on_gone(self, _client: mqtt.Client, _data: object, _code: int) -> None:
-        self._loop.call_soon_threadsafe(self._is_connected, None)
+    def _on_gone(self, _client: mqtt.Client, _data: object, _code: object, _properties: object) -> None:
+        self._loop.call_soon_threadsafe(self._is_gone)
 
     def _on_message(self, _client: mqtt.Client, _data: object, message: mqtt.MQTTMessage) -> None:
         # The broker's thread acknowledges the message when this returns, so wait until the operations are on the disk.
         try:
-            folder, body = self._open_message(message.topic, message.payload)
+            folder, body = self._seal.open(message.topic, message.payload)
         except Replayed:
             return
         except Expired as late:
@@ -172,34 +170,40 @@ class Sites:
         except Exception:  # pylint: disable=broad-except
             logging.exception("a message from the broker could not be handled")
 
-    def _open_message(self, topic: str, payload: bytes) -> tuple[str, bytes]:
-        if len(payload) > LONGEST:
-            raise InvalidMessage(f"it has {len(payload)} bytes, but the limit is {LONGEST}")
-        return self._seal.open(topic, payload)
-
     def _sender(self, folder: str) -> str:
         """Return the sender as which a folder's messages are counted. All folders that were not heard before are one sender, since
         anybody could invent many."""
         is_known = folder == self._id or self._peers.has_heard(folder) or folder in self._floods.ignored_senders()
         return folder if is_known else STRANGERS
 
-    def _is_connected(self, code: int | None) -> None:
-        self._connected = code == 0
-        if code:
-            self._say(f"The broker refused the connection: {connack_string(code)}")
+    def _is_connected(self, refusal: str | None) -> None:
+        self._connected = refusal is None
+        if refusal is not None:
+            self._say(refusal)
         self._sent.clear()
         self._tell()
         if self._connected:
             self._announce_site()
             self._send_unreturned()
 
+    def _is_gone(self) -> None:
+        self._connected = False
+        self._sent.clear()
+        self._tell()
+
     # What is sent
 
     def _publish(self, topic: str, value: Mapping[str, object], quality: int) -> None:
-        if self._connected:
-            fields: Mapping[str, object] = {"folder": self._id, **value}
-            body = to_json(fields).encode()
-            self._client.publish(topic, self._seal.seal(topic, body), qos=quality)
+        if not self._connected:
+            return
+        fields: Mapping[str, object] = {"folder": self._id, **value}
+        payload = self._seal.seal(topic, to_json(fields).encode())
+        length = HEADER + len(topic) + len(payload)
+        if length > self._longest:
+            self._say(f"A message of {length} bytes was not sent, since the broker takes at most {self._longest}: raise the broker's "
+                      f"max_packet_size")
+        else:
+            self._client.publish(topic, payload, qos=quality)
 
     def _send(self, operations: list[Operation]) -> None:
         """Send operations, in messages of limited size. All operations of a message have the same title."""
@@ -212,11 +216,12 @@ class Sites:
         size = 0
         for one in operations:
             written = one.written()
-            part.append(written)
-            size += len(to_json(written))
-            if size > MESSAGE_BYTES:
+            length = len(to_json(written).encode())
+            if part and size + length > self._longest // 2:
                 self._send_part(part, title)
                 part, size = [], 0
+            part.append(written)
+            size += length
         if part:
             self._send_part(part, title)
 
@@ -238,7 +243,7 @@ class Sites:
 
     def _unreturned(self) -> list[Operation]:
         """Return the operations that are on the disk and that the broker has not returned."""
-        return [one for one in self._keeper.state.unsent if self._keeper.is_confirmed(one)]
+        return [one for one in self._keeper.state.unsent if self._keeper.is_confirmed(one) and not isinstance(one, Unreadable)]
 
     def send_shared(self) -> None:
         """Send what was shared at this site."""
@@ -302,7 +307,8 @@ class Sites:
 
     async def _receive(self, topic: str, folder: str, body: bytes) -> None:
         try:
-            value = read_message(body) if len(body) < LARGE_MESSAGE else await asyncio.to_thread(read_message, body)
+            value = self._read_message(folder, body) if len(body) < LARGE_MESSAGE else await asyncio.to_thread(
+                self._read_message, folder, body)
             if topic == SITES_TOPIC:
                 await self._receive_announcement(folder, value)
             elif topic.endswith("/sum"):
@@ -311,6 +317,19 @@ class Sites:
                 await self._receive_operations(folder, value)
         except (InvalidMessage, Refused) as fault:
             self._report_ignored(fault)
+
+    def _read_message(self, folder: str, body: bytes) -> Mapping[str, Json]:
+        """Return the fields of a message. (For a large one, another thread calls this.)"""
+        began = thread_time()
+        try:
+            return read_message(body)
+        finally:
+            self._count_work(folder, thread_time() - began)
+
+    def _count_work(self, folder: str, seconds: float) -> None:
+        """Count the processor time that a message of another site took, whether it was taken or refused."""
+        if folder != self._id:
+            self._floods.add_work(self._sender(folder), seconds)
 
     def _report_ignored(self, fault: InvalidMessage | Refused) -> None:
         self._say(f"A message from the broker was ignored: {fault.why if isinstance(fault, Refused) else fault}")
@@ -330,7 +349,7 @@ class Sites:
         operations = value.get("operations")
         if value.get("form") != SITE_FORM or not isinstance(operations, list):
             raise InvalidMessage(f"it has no list of operations, or is not of form {SITE_FORM}")
-        good = await self._read_operations(operations)
+        good = await self._read_operations(folder, operations)
         title = clean_text(value.get("title") or "", LONGEST_NOTE)
         latest = self._keeper.stamps.latest_count()
         due = [one for one in good if one.stamp[0] <= latest]
@@ -342,26 +361,23 @@ class Sites:
         if early:
             raise FutureStamp(early[0])
 
-    async def _read_operations(self, written: Sequence[Json]) -> list[Operation]:
-        """Return the operations of a message that every site takes, and report the others."""
-        good: list[Operation] = []
-        began = time.perf_counter()
+    async def _read_operations(self, folder: str, written: Sequence[Json]) -> list[Operation]:
+        """Return the operations of a message that every site takes, and report the others in one sentence."""
+        good, faults, began = list[Operation](), list[str](), thread_time()
         for one in written:
             try:
-                good.append(self._read(one))
+                good.append(self._lab.read(one))
             except (Malformed, Refused) as fault:
-                self._say(f"An operation of a message was ignored: {fault.why if isinstance(fault, Refused) else fault}")
-            if time.perf_counter() > began + READ_FOR:
-                await asyncio.sleep(0)
-                began = time.perf_counter()
+                faults.append(fault.why if isinstance(fault, Refused) else str(fault))
+            if thread_time() > began + READ_FOR:
+                self._count_work(folder, thread_time() - began)
+                await asyncio.sleep(2 * READ_FOR)
+                began = thread_time()
+        self._count_work(folder, thread_time() - began)
+        if faults:
+            several = f"{len(faults)} operations of a message were ignored. The first" if faults[1:] else "An operation of a message was ignored"
+            self._say(f"{several}: {faults[0]}")
         return good
-
-    def _read(self, written: Json) -> Operation:
-        one = read_operation(written)
-        if any(clean_text(text, most) != text for text, most in ((one.about.who, LONGEST_NAME), (one.about.note, LONGEST_NOTE))):
-            raise Malformed("`who` and `note` must each fit in a line, without control characters")
-        self._lab.check(one)
-        return one
 
     def _keep_early(self, one: Operation) -> None:
         """Let an early operation wait, once, however often it comes. If too many wait, drop the oldest; they will be sent again."""
@@ -372,8 +388,7 @@ class Sites:
     async def _take(self, folder: str, operations: list[Operation], title: str) -> None:
         times: Times = {}
         await self._lab.receive(operations, title, times)
-        if folder != self._id:
-            self._floods.add_work(self._sender(folder), times.get("work", 0))
+        self._count_work(folder, times.get("work", 0))
         for one in operations:
             self._report_twins(one)
         unsent = self._keeper.state.unsent

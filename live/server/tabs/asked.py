@@ -11,16 +11,15 @@ from itertools import islice
 from typing import Iterable, Iterator, Mapping, cast
 
 from zegdrut.program.grammar import GREATEST, Part, kind, list_of, put, row_of, shown, value_of, whole
-from zegdrut.program.refusals import Reasons
-from zegdrut.program.wire import PlanLine, ReplyFields
 
 from ..journal.journal import to_json
 from ..model.demands import INFLOW, MOST_DEMAND
 from ..model.operations import Json, Shape, Stamp, intern_int
+from ..model.reading import clean_text
 from .refusals import NOT_A_COMMAND, Refused, not_a_command
 
 MOST_EDITS = 1_200  # raw edits of a gesture; the program gets them as one import
-LONGEST_NAME, LONGEST_NOTE, LONGEST_KEY = 64, 200, 40
+LONGEST_KEY = 40  # characters
 MOST_FAULTS_NAMED = 3  # faults of a list that a refusal names
 LONG_FIELD = 2_000  # bytes of a field; in a longer one a refusal does not show numbers as they were written, since that takes long
 
@@ -38,13 +37,6 @@ SHAPE = row_of(("kind", kind), ("first index", whole), ("last index", whole), ("
                ("to", whole_or_none), ("value", whole))
 STAMP = row_of(("count", lambda value: whole(value, 1 << 48)), ("number", lambda value: whole(value, 65_535)))
 PAIR = row_of(("index", whole), ("chance", whole))
-
-
-def clean_text(value: object, most: int) -> str:
-    """Return a text of at most `most` characters for one line: without control characters, direction marks and lone surrogates."""
-    begin = " ".join(str(value)[:8 * most].split())
-    plain = "".join(character for character in begin if unicodedata.category(character)[0] != "C")
-    return plain.strip()[:most]
 
 
 # Cyrillic, Greek and rare Latin letters that look like a common Latin letter, small or capital; and invisible characters.
@@ -207,11 +199,3 @@ class CommandFields:
         rest = {name: value for name, value in self._fields.items() if name not in self._known}
         self._known.update(rest)
         return rest
-
-
-def explain_refusal(plan: PlanLine, at: str, horizon: int, line: bytes, reply: ReplyFields) -> str:
-    """Return a sentence that says why the program refused a line of the replica `at`, which has run to `horizon`."""
-    reasons = Reasons()
-    reasons.hear(to_json(plan).encode(), {"open": 1})
-    reasons.hear(to_json({"advance": {"at": at, "to": horizon}}).encode(), {"horizon": horizon})
-    return reasons.hear(line, reply) or f"the program refused it: {reply['refused']}"

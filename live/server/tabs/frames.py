@@ -5,7 +5,7 @@ from typing import Mapping, Sequence, TypedDict
 
 from zegdrut.program.wire import PlanLine, WrittenEdit
 
-from ..figures.chance import FigureTold
+from ..figures.days import FigureTold
 from ..figures.figures import DetectorFigures, RoadFigures, MeanTimes
 from ..model.operations import Json, Shape, Stamp
 from ..sites.peers import BrokerState

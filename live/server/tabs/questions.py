@@ -13,10 +13,10 @@ from zegdrut.program.grammar import LAST_HORIZON
 from zegdrut.program.rows import count_cars
 from zegdrut.program.wire import CountReply, WrittenEdit
 
-from ..figures import admissions, chance, figures, reports, saving
+from ..figures import child, curves, days, figures, report, saving
 from ..figures.figures import DetectorFigures, TwoDemands, TwoRoads
 from ..journal.journal import to_json
-from ..journal.keeper import SHARED, Times
+from ..journal.keeper import SHARED
 from ..journal.lab import Lab
 from ..journal.lab import ReplyFields as Fields
 from ..journal.state import Replica
@@ -24,12 +24,12 @@ from ..journal.timing import STEPS_AHEAD
 from ..model.changes import all_lines, find_altered_lines
 from ..model.choices import sendable
 from ..model.demands import asked_demands
-from ..model.operations import Json, Operation, Stamp
+from ..model.operations import Json, Operation, Stamp, Unreadable
 from ..model.projection import Edits
 from ..model.road import Road
 from ..roads import rows
 from ..roads.plans import clock_of, name_of
-from ..roads.program import LONG_ROAD
+from ..roads.program import LONG_ROAD, Times
 from ..roads.roads import SIDES, KeptRoad, Preview, Previews, AskedRoad, Side
 from ..roads.screen import first_step, rows_of
 from ..roads.turns import MORE, Job, More
@@ -59,8 +59,8 @@ class Questions:
 
     def __init__(self, lab: Lab) -> None:
         self._lab, self._keeper = lab, lab.keeper
-        self._previews, self._chance, self._figures = Previews(), chance.DayQuestions(), figures.Figures()
-        self._saved, self._admissions = saving.Saved(), admissions.Admissions(lab.keeper.folder)
+        self._previews, self._days, self._figures = Previews(), days.DayQuestions(), figures.Figures()
+        self._saved, self._curves = saving.Saved(), curves.Curves(lab.keeper.folder)
 
     def road(self, index: int, at: str) -> AskedRoad:
         """Return a road of a seat. `at` is "own", "shared", or a side of its preview."""
@@ -70,14 +70,14 @@ class Questions:
 
     def close(self) -> None:
         self._previews.close()
-        self._chance.stop()
+        self._days.stop()
         self._figures.close()
-        self._admissions.close()
+        self._curves.close()
 
     def drop_seat(self, index: int) -> None:
         """Drop previews, questions and transcripts of a seat whose tab has gone."""
         self._previews.put(index, None)
-        self._chance.stop(index)
+        self._days.stop(index)
         self._saved.drop(index)
 
     async def ask_program(self, road: AskedRoad, times: Times, verb: str, fields: Mapping[str, Json]) -> bytes:
@@ -232,7 +232,7 @@ class Questions:
             shared, texts, size = self._keeper.state.shared.places, list[str](), 0
             after, more, began = replica.size, False, time.perf_counter()
             for one, place in [*replica.places.items()]:
-                if place < first:
+                if place < first or isinstance(one, Unreadable):
                     continue
                 if time.perf_counter() > began + LINES_FOR:
                     await asyncio.sleep(0)
@@ -256,7 +256,7 @@ class Questions:
         limit, slowing = plan["zones"][cell // plan["zone"]]
         beside = sorted((plan["inlets"][one][0], chance_of) for one, chance_of in before if chance_of)
         entry = find_entry(plan, cell) if beside else 0
-        return await self._admissions.find_curve({"limit": limit, "slowing": slowing, "start": start, "entry": entry,
+        return await self._curves.find_curve({"limit": limit, "slowing": slowing, "start": start, "entry": entry,
                                                   "cell": cell if beside else 0, "before": beside}, self._keeper.path)
 
     # What would be
@@ -274,7 +274,7 @@ class Questions:
             if what == "take":
                 return await self._make_preview("take", own, state.unseen(own))
             return await self._make_preview("share", state.shared, own.shareable() if stamps is None else sendable(
-                own.road, state.shared.road, own.number, stamps))
+                own.road, state.shared.road, own.own, stamps))
         fed = SHARED if what == "share" else index
         preview, reply = await self._keeper.read_committed(lambda: self._keeper.ask(index, (fed,), body), "shared")
         self._previews.put(index, preview)
@@ -349,17 +349,17 @@ class Questions:
     async def days(self, index: int, own: Replica, of: str | None, first: int, last: int) -> Reply:
         """Return the figures of two roads over many days, each with its mean and interval. If `of` is None, stop that question."""
         if of is None:
-            return {"stopped": self._chance.stop(index)}
-        plan, listeners, days = self._keeper.state.plan, self._keeper.listeners, self._keeper.settings.days
+            return {"stopped": self._days.stop(index)}
+        plan, listeners, number = self._keeper.state.plan, self._keeper.listeners, self._keeper.settings.days
         if not isinstance(plan["words"], int):
             raise Refused("OneDay", "this road has fixed random numbers (no seed), so all days are the same: look at the figures of "
                           "this day")
-        question = self._chance.begin(index, days, lambda other: self._keeper.state.seats[other].name)
+        question = self._days.begin(index, number, lambda other: self._keeper.state.seats[other].name)
         try:
             roads = await self._find_both_roads(index, own, of, first, last)
             said = await question.answer(roads, lambda: listeners.days.notify(index, question.done, question.days))
         finally:
-            self._chance.end(question)
+            self._days.end(question)
         return {"from": first, "to": last, **said}
 
     # What is saved
@@ -371,7 +371,7 @@ class Questions:
         self._require_reachable(last)
         if piece == 0:
             self._saved.make_room(index)
-            async with figures.wait_for_slot(index):
+            async with child.wait_for_slot(index):
                 name = self._keeper.state.seats[replica.index].name or replica.at
                 lines = saving.script(self._keeper.state.plan, name, rows_of(await self._timeline(replica.road)), first, last)
                 self._saved.put(index, await saving.transcript(self._keeper.path, self._keeper.state.plan, lines))
@@ -384,9 +384,9 @@ class Questions:
         day, seat = clock_of(self._keeper.folder), self._keeper.state.seats[index]
         names = ["before", "after"] if of == "preview" else ["shared", seat.name or seat.at]
         clock = () if day is None else (day.to_text(0), *(None if one is None else str(one) for one in (day.date, day.zone)))
-        html = await reports.make_report(index, {"roads": roads, "title": title, "works": works, "names": names, "clock": clock,
-                                          "days": reports.DAYS})
-        return {"from": first, "to": last, "html": html}
+        made = await report.make_report(index, {"roads": roads, "title": title, "works": works, "names": names, "clock": clock,
+                                                "days": report.DAYS})
+        return {"from": first, "to": last, **made}
 
     async def table_of_counts(self, road: AskedRoad, times: Times, first: int, last: int, each: int) -> Reply:
         """Return a table of what detectors count, as CSV, for each span of `each` steps."""

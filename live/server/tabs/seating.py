@@ -19,6 +19,7 @@ from ..journal.records import SeatFreed, SeatGiven, SeatUsed
 from ..journal.state import SeatReplica, State
 from ..journal.writing import wait_until_written
 from ..model.operations import SEATS
+from ..model.reading import LONGEST_NAME, clean_text
 from .asked import fold_look_alikes
 from .refusals import Refused
 
@@ -41,7 +42,7 @@ class Seating:
         self._keeper = keeper
         self._giving = asyncio.Lock()
         self.steady = SteadyClock(keeper.settings.day * NOTED)
-        self.secret = secrets.token_bytes(16)  # signs keys
+        self.secret = secrets.token_bytes(16)  # signs keys; nobody else has it
         self._unkept: dict[int, SeatGiven] = {}  # seats that were given while the disk refused writes
         self._listed: list[ListedSeat] = []  # the last list whose seats were all on the disk
         keeper.listeners.trouble.on(self._keep)
@@ -104,8 +105,8 @@ class Seating:
         return await self._give(index, self._state.seats[index].name)
 
     async def _new_seat(self, name: str) -> tuple[int, str]:
-        if not name:
-            raise self._refuse_with_seats("NoName", "give a name of 1 to 64 characters")
+        if not fold_look_alikes(name):
+            raise self._refuse_with_seats("NoName", "give a name of 1 to 64 characters, with one that can be seen")
         alike = self._find_similar_name(name)
         if alike is not None:
             hint = "" if alike == name else f", and {name} looks like it"
@@ -113,16 +114,14 @@ class Seating:
         free = [seat.index for seat in self._state.seats[1:] if not seat.key]
         if not free:
             raise self._refuse_with_seats("AllSeatsTaken", "all 63 seats are taken: take one over")
-        made = {number for _, number in self._state.by_stamp}  # prefer seats whose number has made no operations
-        fresh = [index for index in free if self._state.seats[index].number not in made]
-        return await self._give((fresh or free)[0], name, self._state.works)
+        return await self._give(free[0], name, self._state.works)
 
     async def _give_again(self, key: str) -> tuple[int, str]:
         """Give a tab the seat that its signed key names. The seat was given while the disk refused writes, and must be free."""
         said, _, name = key.partition(".")[2].partition(".")
         index = int(said) if said.isdecimal() and len(said) <= 2 else 0
         is_signed = hmac.compare_digest(self._sign(key[:8], index, name).encode(), key.encode("utf-8", "replace"))
-        if not is_signed or self._state.seats[index].key or self._find_similar_name(name) is not None:
+        if not is_signed or name != clean_text(name, LONGEST_NAME) or self._state.seats[index].key or self._find_similar_name(name) is not None:
             raise self._refuse_with_seats("UnknownKey", "this seat was taken over or freed: choose a seat")
         return await self._give(index, name, self._state.works, key)
 
@@ -176,7 +175,7 @@ class Seating:
     async def release_seat(self, index: int) -> None:
         """Free a seat when its earlier commands are done. Raise `Refused` if it has changes that are not shared."""
         async def body() -> asyncio.Future[None]:
-            if self.require_owned(index).shareable():
+            if self._state.has_private(self.require_owned(index)):
                 raise Refused("PrivateChanges", "this seat has changes that are not shared: share or undo them first")
             await self._keeper.require_writable()
             return self._free(index)
@@ -203,7 +202,7 @@ class Seating:
             if seat.index in self._keeper.connected:
                 if seat.used < now - day * NOTED:
                     self._note_use(seat.index)
-            elif seat.used < now - day and not seat.shareable():
+            elif seat.used < now - day and not self._state.has_private(seat):
                 logging.info("seat %d of %s was not used for a day and is freed", seat.index, seat.name)
                 self._free(seat.index)
                 self._keeper.listeners.seats.notify()

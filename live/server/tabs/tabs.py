@@ -22,14 +22,15 @@ from zegdrut.program.programs import describe_standing
 
 from ..background.supervised import supervise
 from ..journal.journal import to_json
-from ..journal.keeper import Times
 from ..journal.lab import Lab
 from ..journal.state import TAB_FORM
 from ..journal.timing import STEPS_AHEAD
 from ..model.operations import Json
+from ..model.reading import LONGEST_NAME
 from ..roads import plans
+from ..roads.program import Times
 from . import verbs
-from .asked import LONGEST_NAME, MOST_EDITS, CommandFields
+from .asked import MOST_EDITS, CommandFields
 from .questions import MOST_BYTES, MOST_ROWS, Questions, Reply
 from .refusals import Refused, not_a_command
 from .seating import ListedSeat

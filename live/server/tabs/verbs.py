@@ -8,13 +8,15 @@ from typing import Awaitable, Callable, TypeVar
 
 from zegdrut.program.grammar import LAST_HORIZON
 
-from ..journal.keeper import SHARED, Times
+from ..journal.keeper import SHARED
 from ..journal.lab import Lab
 from ..journal.state import Replica
 from ..journal.timing import FASTEST
+from ..model.reading import LONGEST_NOTE
+from ..roads.program import Times
 from ..roads.roads import SIDES, AskedRoad
 from ..sites import peers
-from .asked import LONGEST_NOTE, CommandFields, RawEdit
+from .asked import CommandFields, RawEdit
 from .questions import Questions, Reply
 from .refusals import Refused, not_a_command
 

@@ -28,10 +28,11 @@ import sys
 from pathlib import Path
 from typing import Sequence
 
-from ..figures.days import Comparison, Day, compare_days, run_over_days
+from ..figures.days import Days, run_over_days
 from ..figures.delay import Delay, Entered, Group, compare_delays, to_vehicle_hours
-from ..figures.intervals import Estimate, warn_few_days
+from ..figures.intervals import warn_few_days
 from ..figures.lost import compute_demands, compute_supplies
+from ..figures.table import FigureRow, Mean
 from ..figures.trips import Trips, Window, count_admitted_cars
 from ..program.errors import Fault, LabError, describe_error
 from ..program.lab import RoadLab
@@ -128,25 +129,24 @@ def print_notes(cost: Delay, seconds: float) -> None:
 
 # Many days
 
-def format_comparisons(figures: list[Comparison]) -> list[str]:
+def format_rows(rows: list[FigureRow]) -> list[str]:
     """Return the table of means over all days."""
     lines = ["mean of a day,before,±,after,±,difference,±,unpaired ±,days of opposite sign"]
-    for one in figures:
-        numbers = [*one.before, *one.after, *one.difference, one.unpaired.half]
-        lines.append(",".join([one.name, *(f"{number:.3f}" for number in numbers), str(one.others)]))
+    for row in rows:
+        numbers = [*row.before, *row.after, *row.difference, row.unpaired]
+        lines.append(",".join([row.figure.title, *(f"{number:.3f}" for number in numbers), str(row.others)]))
     return lines
 
 
-def format_days(days: list[Day]) -> list[str]:
+def format_days(days: Days) -> list[str]:
     """Return the table of the figures of each day."""
-    lines = [",".join(["day,seed", *(f"{name} {when}" for name in days[0].before for when in ("before", "after"))])]
-    for number, day in enumerate(days):
-        values = [f"{values[name]:.10g}" for name in day.before for values in (day.before, day.after)]
-        lines.append(",".join([str(number), str(day.seed), *values]))
+    lines = [",".join(["day,seed", *(f"{figure.title} {when}" for figure in days.figures for when in ("before", "after"))])]
+    for number, (seed, values) in enumerate(zip(days.seeds, days.values)):
+        lines.append(",".join([str(number), str(seed), *(f"{one:.10g}" for value in values for one in (value.before, value.after))]))
     return lines
 
 
-def draw_differences(folder: Path, difference: Estimate, days: int) -> None:
+def draw_differences(folder: Path, difference: Mean, days: int) -> None:
     """Draw the differences of all days, if gnuplot is installed."""
     if shutil.which("gnuplot") is None:
         print("gnuplot is not installed, so there is no differences.png: install the package gnuplot-nox", file=sys.stderr)
@@ -160,11 +160,11 @@ def compare_over_days(given: argparse.Namespace) -> None:
     before, after = map(read_script, given.scripts)
     prepare_folder(given.out)
     days = run_over_days(before, after, given.days, given.at, read_units(given), given.scripts)
-    figures = compare_days(days)
+    rows = days.rows()
     print("".join(f"{one}\n" for one in warn_few_days(given.days)), end="", file=sys.stderr, flush=True)
-    write_and_print(given.out, "days.csv", format_comparisons(figures))
+    write_and_print(given.out, "days.csv", format_rows(rows))
     write_table(given.out, "by_day.csv", format_days(days))
-    draw_differences(given.out, figures[0].difference, given.days)
+    draw_differences(given.out, rows[0].difference, given.days)
 
 
 def read_units(given: argparse.Namespace) -> Units:

@@ -12,7 +12,7 @@ header, which need --stations TABLE.csv with station, km or miles, and lanes. Mi
 With --write-road FILE it only writes the road with the measured demand to a file, which freeway, metering and report can read. With
 --demand road it simulates the demand of ROAD.json, such as that of a calibrated road.
 
-It writes the tables hours-, speeds- and intervals-NAME-0630-0930.csv, and the pictures comparison- and space-time-NAME-0630-0930.svg.
+It writes the tables hours-, speeds-, congestion- and intervals-NAME-0630-0930.csv, and the pictures comparison- and space-time-NAME-0630-0930.svg.
 """
 from __future__ import annotations
 
@@ -26,8 +26,10 @@ from typing import Optional, Sequence, cast
 from ..figures.intervals import FEW_DAYS, warn_few_days
 from ..measurements.comparison import (Day, Hour, Model, compare_hours, compare_speeds, list_left_out, make_model, make_interval_records, compute_total_rmse, compute_share_below,
                           simulate_day, simulate_days, with_measured_demand, with_stations)
+from ..measurements.congestion import (CONGESTED, JudgedDay, compare_time_lost, describe_jams, judge, list_segments,
+                                       simulate_segments)
 from ..measurements.measured import Measured, put_on_road
-from ..measurements.stations import HEADERS, Counts, read_counts, read_stations
+from ..measurements.stations import HEADERS, Counts, correct_counts, read_counts, read_stations
 from ..program.bars import Bar
 from ..program.errors import Fault, LabError, describe_error
 from ..program.wire import Record
@@ -50,6 +52,7 @@ def read_arguments(words: Sequence[str] | None) -> argparse.Namespace:
     parser = argparse.ArgumentParser("zegdrut measured", description=__doc__, formatter_class=argparse.RawDescriptionHelpFormatter)
     add_data_arguments(parser)
     add_demand_argument(parser)
+    add_congestion_argument(parser)
     parser.add_argument("--days", type=int, default=DAYS, metavar="N", help="number of days, each with a seed (default: %(default)s)")
     parser.add_argument("--write-road", type=Path, metavar="FILE", help="write the road with the measured demand, and simulate nothing")
     return parser.parse_args(words)
@@ -69,11 +72,27 @@ def add_demand_argument(parser: argparse.ArgumentParser) -> None:
                         "ROAD.json, such as of a calibrated road (default: %(default)s)")
 
 
+def add_congestion_argument(parser: argparse.ArgumentParser) -> None:
+    """Add the option that says when traffic is congested."""
+    parser.add_argument("--congested", type=float, default=CONGESTED, metavar="SHARE", help="traffic is congested below this share of a "
+                        "station's free speed (default: %(default)s)")
+
+
+def check_congested(share: float) -> None:
+    """Check the share of --congested. Fault: it is out of range."""
+    if not 0.1 <= share <= 0.95:
+        raise Fault(f"--congested must be 0.1 to 0.95 of the free speed, not {share:g}")
+
+
 def add_count_options(parser: argparse.ArgumentParser) -> None:
     """Add the options that say how to read measured counts."""
     parser.add_argument("--stations", type=Path, metavar="TABLE.csv", help="table with station, km or miles, and lanes")
     parser.add_argument("--origin", type=float, metavar="KM", help="km of the table that is km 0 of the road (default: 0, or the first station if the table has miles)")
     parser.add_argument("--reverse", action="store_true", help="the km of the table decrease in the direction of travel")
+    parser.add_argument("--leave-out", action="append", default=[], metavar="STATION", help="do not use this station")
+    parser.add_argument("--scale", action="append", default=[], metavar="STATION=FACTOR", help="multiply the counts of a station that counts "
+                        "too many or too few, such as 103=0.926")
+    parser.add_argument("--no-ramp-check", action="store_true", help="compare also the stations after a fall of the flow, as at an off-ramp")
     parser.add_argument("--column", action="append", default=[], metavar="QUANTITY=COLUMN", help="title of the column of a quantity, such as speed=v_mean")
     parser.add_argument("--unit", action="append", default=[], metavar="speed=UNIT", help="unit of the speeds: km/h, mph or m/s")
 
@@ -89,16 +108,49 @@ def read_pairs(given: list[str], word: str, example: str, known: Sequence[str]) 
     return found
 
 
+def read_factors(given: list[str]) -> dict[str, float]:
+    """Read arguments such as 103=0.926 into a dictionary. Fault: one has no factor."""
+    found = {}
+    for one in given:
+        name, sign, text = one.rpartition("=")
+        try:
+            found[name] = float(text if sign else "")
+        except ValueError:
+            raise Fault(f"--scale must be STATION=FACTOR, such as 103=0.926, not {one}") from None
+    return found
+
+
 def read_data(given: argparse.Namespace) -> tuple[Figures, Measured]:
     """Read the road and its counts, and check that they fit. Fault: one of them is invalid."""
+    return read_day(given, FIGURES.override(given.road))
+
+
+def read_days(given: argparse.Namespace, dates: Sequence[str]) -> list[tuple[Figures, Measured]]:
+    """Read the road and its counts on each of some dates, or on the date of the road if there are none. Fault: one of them is invalid."""
     figures = FIGURES.override(given.road)
+    return [read_day(given, dataclasses.replace(figures, date=date)) for date in dates] or [read_day(given, figures)]
+
+
+def list_dates(figures: Figures) -> list[datetime.date] | None:
+    """Return the dates of the window, or None if the road has no date."""
+    first = figures.clock.date
+    if first is None:
+        return None
+    return [first + datetime.timedelta(days=day) for day in range((figures.clock.begin + round(figures.minutes * 60)) // 86_400 + 1)]
+
+
+def read_day(given: argparse.Namespace, figures: Figures) -> tuple[Figures, Measured]:
+    """Read the counts of a road, and check that they fit. Fault: one of them is invalid."""
     if figures.begin is None:
         raise Fault(f'{given.road} has no begin: add the clock time at which the window begins, such as "begin": "06:30"')
     table = read_stations(given.stations) if given.stations else None
     counts = read_counts(given.counts, table, read_pairs(given.column, "column", "speed=v_mean", list(HEADERS)),
-                         read_pairs(given.unit, "unit", "speed=mph", ["speed"]))
+                         read_pairs(given.unit, "unit", "speed=mph", ["speed"]), list_dates(figures))
+    if not counts.rows:
+        raise Fault(f"{given.counts} has no row of {figures.date}: change the date")
+    counts = correct_counts(counts, given.leave_out, read_factors(given.scale))
     figures = with_date_of(figures, counts)
-    measured = put_on_road(counts, figures.clock, round(figures.minutes * 60), given.origin, given.reverse)
+    measured = put_on_road(counts, figures.clock, round(figures.minutes * 60), given.origin, given.reverse, not given.no_ramp_check)
     make_road(with_measured_demand(with_stations(figures, measured), measured)[0])
     return figures, measured
 
@@ -146,12 +198,13 @@ def find_places(model: Model) -> dict[str, str]:
 
 def format_hours(model: Model, hours: Sequence[Hour]) -> list[str]:
     """Return the table of stations and hours."""
-    rows = ["station,km,from,to,measured cars/h/lane,simulated cars/h/lane,± cars/h/lane,GEH per lane,lanes,GEH all lanes".split(",")]
+    rows = ["station,km,from,to,measured cars/h/lane,simulated cars/h/lane,± cars/h/lane,GEH per lane,lanes,GEH all lanes,intervals".split(",")]
+    an_hour = HOUR // model.measured.interval
     clock, lanes = model.measured.clock, {one.station.name: one.station.lanes for one in model.measured.main}
     places = find_places(model)
     for one in hours:
         rows.append([one.station, places[one.station], clock.to_text(one.first), clock.to_text(one.first + HOUR), f"{one.measured:.1f}",
-                     f"{one.simulated:.1f}", format_number(one.half), f"{one.geh:.2f}", str(lanes[one.station]), f"{one.geh_all_lanes:.2f}"])
+                     f"{one.simulated:.1f}", format_number(one.half), f"{one.geh:.2f}", str(lanes[one.station]), f"{one.geh_all_lanes:.2f}", f"{one.intervals} of {an_hour}"])
     return format_csv(rows)
 
 
@@ -161,6 +214,36 @@ def format_speeds(model: Model, days: Sequence[Day]) -> list[str]:
     rows = ["station,km,intervals,RMSE of time-mean speed km/h,simulated minus measured km/h".split(",")]
     rows += [[one.station, places[one.station], str(one.intervals), format_number(one.rmse), format_number(one.bias)] for one in errors]
     return format_csv([*rows, ["all", "", str(sum(one.intervals for one in errors)), format_number(compute_total_rmse(errors)), ""]])
+
+
+class Congestion:
+    """The congestion of a road, compared with the measured one, as a table and as sentences."""
+
+    def __init__(self, model: Model, days: Sequence[JudgedDay], share: float) -> None:
+        """Judge the days of a model. Traffic is congested below a share of the free speed."""
+        self._measured, self._share = model.measured, share
+        self._found = judge(model.measured, days, share)
+        self._lost = compare_time_lost(list_segments(model), days, share)
+
+    def format_table(self) -> list[str]:
+        """Return the table of station intervals, speeds, delay and travel times."""
+        rows = ["figure,unit,value,±".split(",")]
+        names = ("congested in both", "congested only measured", "congested only simulated", "congested in neither")
+        rows += [[name, "station intervals", str(count), ""] for name, count in zip(names, self._found.count())]
+        for what, off in (("measured congestion", self._found.congested), ("measured free traffic", self._found.free)):
+            rows += [[f"RMSE of speed in {what}", "km/h", format_number(off.rmse), ""],
+                     [f"simulated minus measured speed in {what}", "km/h", format_number(off.bias), ""]]
+        if self._lost is not None:
+            for name, unit, both in (("delay of congested traffic", "vehicle hours per lane", self._lost.delay),
+                                     ("mean travel time", "s", self._lost.mean_time), ("longest travel time", "s", self._lost.longest_time)):
+                if both is not None:
+                    rows += [[f"{name}, measured", unit, format_number(both.measured), ""],
+                             [f"{name}, simulated", unit, format_number(both.simulated), format_number(both.half)]]
+        return format_csv(rows)
+
+    def describe(self) -> list[str]:
+        """Return what congestion means here, and a verdict on each jam."""
+        return [f"congested: below {self._share:g} of the free speed of the station", *describe_jams(self._found, self._measured)]
 
 
 def format_records(records: Sequence[Record]) -> list[str]:
@@ -230,6 +313,7 @@ def draw_space_time(model: Model) -> str:
 def compare(given: argparse.Namespace, out: Path) -> None:
     """Read the data, simulate, compare, and write the results."""
     check_days(given.days, 1)
+    check_congested(given.congested)
     figures, measured = read_data(given)
     folder = given.out or out / given.road.stem
     if given.write_road is None:
@@ -247,16 +331,18 @@ def compare(given: argparse.Namespace, out: Path) -> None:
     print_lines(model.road.notes)
     report_progress(f"simulating {count_things(given.days, 'day')}")
     bar = Bar("days", in_log=True)
-    days = simulate_days(model, given.days, bar.show)
+    judged = simulate_segments(model, list_segments(model), given.days, bar.show)
     bar.end()
+    days = [one.passed for one in judged]
     hours = compare_hours(measured, days)
-    tables = {"hours": format_hours(model, hours), "speeds": format_speeds(model, days)}
+    congestion = Congestion(model, judged, given.congested)
+    tables = {"hours": format_hours(model, hours), "speeds": format_speeds(model, days), "congestion": congestion.format_table()}
     for name, lines in tables.items():
         write_table(folder, name, model, lines)
         print(f"\n{make_title(model)}\n" + "\n".join(lines))
     write_table(folder, "intervals", model, format_records(make_interval_records(model, days)))
     print()
-    print_lines(format_shares(measured, hours))
+    print_lines([*format_shares(measured, hours), *congestion.describe()])
     window = format_window(model)
     (folder / f"comparison-{model.name}-{window}.svg").write_text(draw_comparison(model, days), encoding="utf-8")
     (folder / f"space-time-{model.name}-{window}.svg").write_text(draw_space_time(model), encoding="utf-8")
@@ -287,10 +373,13 @@ def format_shares(measured: Measured, hours: Sequence[Hour]) -> list[str]:
     """Return how many station hours are compared, why the others are left out, and the shares with a GEH below 5."""
     left_out = list_left_out(measured)
     found = [f"{len(hours)} of {count_things(len(hours) + len(left_out), 'station hour')} compared"]
+    scaled = sum(one.intervals < HOUR // measured.interval for one in hours)
+    if scaled:
+        found.append(f"{count_things(scaled, 'station hour')} with missing intervals: both flows are of the others, scaled to an hour")
     if left_out:
         found.append("left out: " + "; ".join(f"station {one.station} from {measured.clock.to_text(one.first)} ({one.reason})" for one in left_out))
     if not hours:
-        return [*found, "so there is no GEH: it needs whole hours without a missing row"]
+        return [*found, "so there is no GEH: it needs hours with at least five sixths of their rows"]
     one, every = [hour.geh for hour in hours], [hour.geh_all_lanes for hour in hours]
     return [*found, f"GEH below 5 in {100 * compute_share_below(one):.0f} % of {count_things(len(hours), 'compared station hour')} by the flow per "
             f"lane, and in {100 * compute_share_below(every):.0f} % by the flow of all lanes (guidelines require 85 % of the links)"]

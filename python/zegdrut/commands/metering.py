@@ -24,20 +24,21 @@ import dataclasses
 import json
 import math
 import sys
-from concurrent.futures import ThreadPoolExecutor
 from dataclasses import dataclass
 from pathlib import Path
-from typing import Sequence
+from typing import NamedTuple, Sequence
 
-from ..figures.intervals import describe_chance, estimate_mean, estimate_paired, warn_few_days
-from ..figures.trips import Trips, Window, count_admitted_cars, compute_vehicle_hours
+from ..figures.intervals import CHANCE, warn_few_days
+from ..figures.simulation import RoadRun, read_run, simulate_days
+from ..figures.table import Figure, FigureRow, choose, compare as compare_figures, list_figures, measure_day
+from ..figures.trips import Window
 from ..program.bars import Bar
 from ..program.errors import Fault, LabError, describe_error
 from ..program.lab import RoadLab
 from ..reports.outputs import format_csv, format_window, make_title, prepare_folder, write_csv
 from ..roads.clock import InvalidTime
-from ..roads.control import RampMeter, measure_queue, run_control
-from ..roads.demand import Admission, AdmissionByFlow, BeyondCapacity, count_demand, measure_by_flow, thread_count, find_rate
+from ..roads.control import RampMeter, run_control
+from ..roads.demand import Admission, AdmissionByFlow, BeyondCapacity, measure_by_flow, find_rate
 from ..roads.freeway import Figures, Road, measure_chances, make_road, widen_inlet
 from ..roads.freeway_files import is_number, check_names
 from ..roads.road_scripts import Chances, make_base_edits, make_commands, make_plan
@@ -84,6 +85,11 @@ class Site:
     def admission(self, step: int) -> Admission:
         """Return the admission of the ramp at the main demand of a step."""
         return self.admissions.at_flow(sum(find_rate(demand, step) for _, demand in self.road.inlets[:self.inlet]))
+
+    def list_figures(self) -> list[Figure]:
+        """Return the figures of a day: of the road, of the queue at the ramp, and the lost demand of the main road."""
+        figures = list_figures(make_plan(self.road, self.chances, self.figures.seed))
+        return choose(figures, "hours", "waiting", "together", "queue", "left", inlet=self.inlet) + choose(figures, "lost at", inlet=0)
 
     def meter(self, start: float) -> RampMeter:
         """Return a ramp meter that starts at a step (infinity: never)."""
@@ -153,20 +159,18 @@ def make_site(name: str, figures: Figures, control: Control) -> Site:
 
 # Days
 
-Numbers = dict[str, float]
+class Metered(NamedTuple):
+    """A run, and the rates of its ramp meter."""
+
+    run: RoadRun
+    rates: list[tuple[int, float, float, float]]
 
 
-def measure_day(site: Site, lab: RoadLab) -> Numbers:
-    """Return the figures of a day."""
-    trips = Trips(lab.plan, [])
-    trips.follow(lab, "A", site.road.steps)
-    day = Window(0, site.road.steps)
-    hours = compute_vehicle_hours(trips, day)
-    waiting, longest = measure_queue(trips, site.inlet, site.road.inlets[site.inlet][1])
-    asked = count_demand(site.road.inlets[0][1], 0, site.road.steps)
-    return {"vehicle hours on the road": hours, "vehicle hours waiting at the ramp": waiting, "vehicle hours together": hours + waiting,
-            "longest queue at the ramp, cars": longest, "cars that left the road": float(sum(step is not None for step in trips.left.values())),
-            "lost main demand, cars": asked - count_admitted_cars(trips, day)[0]}
+def run_metered(site: Site, lab: RoadLab, start: float) -> Metered:
+    """Run a day with metering from step `start` on (infinity: never)."""
+    meter = site.meter(start)
+    run_control(lab, "A", [meter], 0, site.road.steps)
+    return Metered(read_run(lab, "A", Window(0, site.road.steps), [demand for _, demand in site.road.inlets], detectors=[]), meter.rates)
 
 
 def open_day(site: Site, seed: int) -> RoadLab:
@@ -177,27 +181,19 @@ def open_day(site: Site, seed: int) -> RoadLab:
     return lab
 
 
-def run_day(site: Site, seed: int) -> tuple[Numbers, Numbers, RampMeter, RampMeter]:
-    """Run a day without control and with it. Return the figures and the meter of both."""
-    meters = [site.meter(math.inf), site.meter(site.control.begin)]
+def run_day(site: Site, seed: int) -> list[Metered]:
+    """Run a day without control and with it."""
     found = []
-    for meter in meters:
+    for start in (math.inf, site.control.begin):
         with open_day(site, seed) as lab:
-            run_control(lab, "A", [meter], 0, site.road.steps)
-            found.append(measure_day(site, lab))
-    return found[0], found[1], meters[0], meters[1]
+            found.append(run_metered(site, lab, start))
+    return found
 
 
-def run_again(site: Site, seed: int, start: int) -> tuple[Numbers, Numbers, RampMeter, RampMeter]:
-    """Return the figures and the meter of a day without metering, and of the same day with metering from step `start` on, by edits in its
-    past."""
+def run_again(site: Site, seed: int, start: int) -> list[Metered]:
+    """Run a day without metering, and again with metering from step `start` on, by edits in its past."""
     with open_day(site, seed) as lab:
-        first = site.meter(math.inf)
-        run_control(lab, "A", [first], 0, site.road.steps)
-        before = measure_day(site, lab)
-        again = site.meter(start)
-        run_control(lab, "A", [again], 0, site.road.steps)
-        return before, measure_day(site, lab), first, again
+        return [run_metered(site, lab, math.inf), run_metered(site, lab, start)]
 
 
 # Tables
@@ -206,27 +202,29 @@ Table = list[list[str]]
 """The rows of a table, the titles first."""
 
 
-def make_table(days: Sequence[tuple[Numbers, Numbers]]) -> Table:
+def compare_runs(site: Site, days: Sequence[Sequence[Metered]]) -> list[FigureRow]:
+    """Return the figures over the days, without control and with it."""
+    figures = site.list_figures()
+    return compare_figures(figures, [measure_day(figures, *(one.run for one in day)) for day in days])
+
+
+def make_table(rows: Sequence[FigureRow]) -> Table:
     """Return the table of means over the days with 95 % intervals: without control, with it, and the difference, paired by day."""
-    rows = [["mean of a day", "no control", "±", "ALINEA", "±", "difference", "±", "remark"]]
-    for name in days[0][0]:
-        before, after = [one[name] for one, _ in days], [other[name] for _, other in days]
-        difference = estimate_paired(before, after)
-        numbers = [number for one in (estimate_mean(before), estimate_mean(after), difference) for number in one]
-        rows.append([name, *(format_fixed(number, 2) for number in numbers), describe_chance(difference)])
-    return rows
+    return [["mean of a day", "no control", "±", "ALINEA", "±", "difference", "±", "remark"],
+            *([row.figure.title, *(format_fixed(number, 2) for mean in (row.before, row.after, row.difference) for number in mean),
+               CHANCE * bool(row.may_be_chance)] for row in rows)]
 
 
-def make_day_table(days: Sequence[Numbers], titles: Sequence[str]) -> Table:
-    """Return the table of some days."""
-    return [[*titles], *([name, *(format_fixed(day[name], 2) for day in days)] for name in days[0])]
+def make_day_table(rows: Sequence[FigureRow], titles: Sequence[str]) -> Table:
+    """Return the table of a day without control and with it."""
+    return [[*titles], *([row.figure.title, *(format_fixed(one.mean, 2) for one in (row.before, row.after))] for row in rows)]
 
 
-def make_minute_table(site: Site, meters: Sequence[RampMeter]) -> Table:
+def make_minute_table(site: Site, runs: Sequence[Metered]) -> Table:
     """Return the table of occupancy, rate and queue by minute, without control and with it. The rate is empty if the ramp is not metered."""
     rows = [["time", "no control: occupancy %", "no control: queue cars", "ALINEA: occupancy %", "ALINEA: rate cars/h", "ALINEA: queue cars"]]
     clock = site.figures.clock
-    for (step, plain, _, waiting), (_, occupancy, rate, queue) in zip(*(meter.rates for meter in meters)):
+    for (step, plain, _, waiting), (_, occupancy, rate, queue) in zip(*(run.rates for run in runs)):
         rows.append([clock.to_text(step), f"{plain:.1f}", f"{waiting:.1f}", f"{occupancy:.1f}", "" if math.isinf(rate) else f"{rate:.0f}",
                      f"{queue:.1f}"])
     return rows
@@ -247,21 +245,18 @@ def compare(given: argparse.Namespace, out: Path) -> None:
     print("".join(f"{note}\n" for note in site.road.notes), end="", file=sys.stderr, flush=True)
     if start is not None:
         report_progress("simulating a day, and the same day again")
-        before, after, *both = run_again(site, figures.seed, start)
+        both = run_again(site, figures.seed, start)
         titles = [f"seed {figures.seed}", "as it was", f"with metering from {figures.clock.to_text(start)} on"]
         write_tables(folder, site, f"seed {figures.seed}",
-                     {"as-if": make_day_table([before, after], titles), "as-if-minutes": make_minute_table(site, both)})
+                     {"as-if": make_day_table(compare_runs(site, [both]), titles), "as-if-minutes": make_minute_table(site, both)})
         return
     print("".join(f"{one}\n" for one in warn_few_days(given.days)), end="", file=sys.stderr, flush=True)
-    bar, found = Bar("days", in_log=True), []
+    bar = Bar("days", in_log=True)
     report_progress(f"simulating {given.days} days without control and with it")
-    with ThreadPoolExecutor(thread_count()) as pool:
-        for one in pool.map(lambda seed: run_day(site, seed), range(figures.seed, figures.seed + given.days)):
-            found.append(one)
-            bar.show(len(found), given.days)
+    days = simulate_days(lambda seed: run_day(site, seed), range(figures.seed, figures.seed + given.days), bar.show)
     bar.end()
-    write_tables(folder, site, f"mean of {given.days} days", {"metering": make_table([one[:2] for one in found])})
-    write_tables(folder, site, f"seed {figures.seed}", {"minutes": make_minute_table(site, found[0][2:])}, is_printed=False)
+    write_tables(folder, site, f"mean of {given.days} days", {"metering": make_table(compare_runs(site, days))})
+    write_tables(folder, site, f"seed {figures.seed}", {"minutes": make_minute_table(site, days[0])}, is_printed=False)
     print(f"The tables are in {folder}", file=sys.stderr)
 
 

@@ -21,15 +21,18 @@ from pathlib import Path
 from typing import Any, Sequence
 
 from ..figures.intervals import warn_few_days
+from ..figures.simulation import RoadRun
+from ..figures.table import FigureRow
 from ..figures.trips import Window
-from ..measurements.comparison import Model, compare_hours, list_left_out, make_model, simulate_days
+from ..measurements.comparison import Model, compare_hours, list_left_out, make_model
+from ..measurements.congestion import list_segments, simulate_segments
 from ..measurements.measured import Measured
 from ..program.bars import Bar
 from ..program.errors import Fault, LabError, describe_error
 from ..program.wire import Record
 from ..reports.outputs import format_window, make_title as make_csv_title, prepare_file
 from ..reports.pictures import INLETS, Chart, Line
-from ..reports.report import PERIOD, Row, Side, SideDay, make_flow_series, make_records, make_speed_series, make_table, run_sides
+from ..reports.report import PERIOD, Side, make_flow_series, make_records, make_speed_series, make_table, run_sides
 from ..reports.report_page import Contents, draw_demands, format_page, make_list_html
 from ..roads.demand import BeyondCapacity, find_rate
 from ..roads.freeway import Figures, Road, measure_chances, make_roads, to_rates, warm_up_minutes, widen_inlets, with_warm_up
@@ -37,8 +40,8 @@ from ..roads.freeway_files import Demand
 from ..roads.road_scripts import make_script
 from ..roads.units import CELLS_A_KM, HOUR, KMH, count_things, format_km, to_steps
 from .freeway import FIGURES, report_progress
-from .measured import (add_count_options, add_demand_argument, check_days, choose_factor, format_hours, format_shares, format_speeds,
-                       make_comparison_charts, make_title, read_data)
+from .measured import (Congestion, add_congestion_argument, add_count_options, add_demand_argument, check_congested, check_days, choose_factor,
+                       format_hours, format_shares, format_speeds, make_comparison_charts, make_title, read_data)
 
 DAYS = 5
 MOST_LISTED = 12
@@ -55,6 +58,7 @@ def read_arguments(words: Sequence[str] | None) -> argparse.Namespace:
     parser.add_argument("--counts", type=Path, metavar="CSV", help="measured counts to compare with")
     add_count_options(parser)
     add_demand_argument(parser)
+    add_congestion_argument(parser)
     parser.add_argument("--warm-up", type=float, metavar="MINUTES", help="minutes of the run before the window (default: twice the free "
                         "travel time, rounded up to five minutes; 0: the road is empty when the window begins)")
     parser.add_argument("--title", help="title of the report (default: the names of the files)")
@@ -86,8 +90,10 @@ class Request:
 def read_request(given: argparse.Namespace) -> Request:
     """Read and check everything. Fault: a file is invalid, or the two files describe different roads or times."""
     check_days(given.days, 1)
+    check_congested(given.congested)
     if given.counts is None:
-        used = [f"--{name}" for name in ("stations", "origin", "reverse", "column", "unit") if getattr(given, name) not in (None, False, [])]
+        used = [f"--{name.replace('_', '-')}" for name in ("stations", "origin", "reverse", "leave_out", "scale", "no_ramp_check", "column", "unit")
+                if getattr(given, name) not in (None, False, [])]
         used += ["--demand"] if given.demand != "counts" else []
         if used:
             raise Fault(f"{used[0]} has no effect without counts: add --counts CSV, or leave it out")
@@ -205,20 +211,21 @@ def make_lines_html(lines: Sequence[str]) -> str:
 
 def make_counts_html(given: argparse.Namespace, model: Model) -> str:
     """Return the part that compares the road with measured counts, as HTML."""
-    measured, days = model.measured, simulate_days(model, given.days)
+    measured, judged = model.measured, simulate_segments(model, list_segments(model), given.days)
+    days, congestion = [one.passed for one in judged], Congestion(model, judged, given.congested)
     hours = compare_hours(measured, days)
     notes = make_list_html(measured.notes) if measured.notes else ""
     whose = "the measured demand" if given.demand == "counts" else f"the demand of {given.road.name}"
     only = f" Only {given.road.name} is compared with the counts, with its works." if given.against or model.figures.sections else ""
-    shares = "; ".join(format_shares(measured, hours)) + "."
+    shares = "; ".join([*format_shares(measured, hours), *congestion.describe()]) + "."
     return (f"<h2>Comparison with measured counts</h2><p>{escape(make_title(model))}, mean of {count_things(given.days, 'day')} with {escape(whose)}."
             f"{escape(only)} {escape(shares)}</p>" + notes + make_lines_html(format_hours(model, hours))
-            + make_lines_html(format_speeds(model, days))
+            + make_lines_html(format_speeds(model, days)) + make_lines_html(congestion.format_table())
             + f'<div class="pairs">{"".join(f"<div>{one.draw(470, 175)}</div>" for one in make_comparison_charts(model, days))}</div>')
 
 
-def make_page(given: argparse.Namespace, request: Request, roads: Sequence[Road], sides: Sequence[Side], days: Sequence[Sequence[SideDay]],
-              rows: Sequence[Row], model: Model | None) -> str:
+def make_page(given: argparse.Namespace, request: Request, roads: Sequence[Road], sides: Sequence[Side], days: Sequence[Sequence[RoadRun]],
+              rows: Sequence[FigureRow], model: Model | None) -> str:
     """Return the report as HTML."""
     figures, road, window = request.figures, roads[-1], request.window
     clock = with_warm_up(figures, request.warm).clock
@@ -245,7 +252,7 @@ def write_table(path: Path, title: str, records: Sequence[Record]) -> None:
         writer.writerows(records)
 
 
-def make_series_records(request: Request, sides: Sequence[Side], roads: Sequence[Road], days: Sequence[Sequence[SideDay]]) -> list[Record]:
+def make_series_records(request: Request, sides: Sequence[Side], roads: Sequence[Road], days: Sequence[Sequence[RoadRun]]) -> list[Record]:
     """Return flow and speed by time at each detector as records."""
     found, window = [], request.window
     for detector, cell in enumerate(roads[0].detectors):

@@ -11,12 +11,14 @@ drivers and closures do not: the cars that they hold back are lost demand. If th
 """
 from __future__ import annotations
 
-from typing import Sequence, TypeVar
+from itertools import accumulate
+from typing import NamedTuple, Sequence, TypeVar
 
 from ..program.records import Edit
 from ..program.wire import PlanLine
 from ..roads.demand import Drivers, Effort, Inlet, Rates, Supply, count_demand, simulate_admitted
-from .trips import Window
+from ..roads.units import HOUR
+from .trips import Trips, Window, entry_inlet, entry_step
 
 AskedRates = Sequence[tuple[int, "float | None"]]
 """The demand of an inlet over time, as (step, cars per hour), each until the next. None: it is unknown, and follows from the chance."""
@@ -79,3 +81,22 @@ def find_value(changes: Sequence[tuple[int, V]], step: int) -> V:
 def compute_supplies(demands: Sequence[Rates], entered: Sequence[int], window: Window) -> list[Supply]:
     """Return the demand of each inlet in a window in cars, with the cars that it admitted."""
     return [Supply(count_demand(rates, *window), cars) for rates, cars in zip(demands, entered)]
+
+
+class Queue(NamedTuple):
+    """The vertical queue before an inlet in a window: its sum over all seconds in vehicle hours, and the longest one in cars."""
+
+    vehicle_hours: float
+    longest: float
+
+
+def measure_queue(trips: Trips, inlet: int, arrivals: Rates, window: Window) -> Queue:
+    """Measure the queue before an inlet: in each second of the window all arrivals up to then, minus the cars admitted up to then.
+
+    Arrivals are a steady flow and cars enter at random, so the queue of a free inlet varies around 0 and is negative at times."""
+    admitted = [0] * window.last
+    for number in trips.left:
+        if entry_inlet(number) == inlet and entry_step(number) < window.last:
+            admitted[entry_step(number)] += 1
+    queue = [count_demand(arrivals, 0, step + 1) - cars for step, cars in enumerate(accumulate(admitted))][window.first:]
+    return Queue(sum(queue) / HOUR, max(queue, default=0.0))

@@ -223,9 +223,14 @@ def count_passings(row: str, following: str, site: int, leaving: int, end: int) 
 
 # Figures of one road
 
+def count_vehicle_steps(trips: Trips, window: Window) -> int:
+    """Return the cars on the road in all rows of a window together."""
+    return sum(trips.cars[max(window.first + 1 - trips.first, 0):max(window.last + 1 - trips.first, 0)])
+
+
 def compute_vehicle_hours(trips: Trips, window: Window) -> float:
     """Return the vehicle hours of a window."""
-    return sum(trips.cars[max(window.first + 1 - trips.first, 0):max(window.last + 1 - trips.first, 0)]) / HOUR
+    return count_vehicle_steps(trips, window) / HOUR
 
 
 def count_admitted_cars(trips: Trips, window: Window) -> list[int]:
@@ -248,20 +253,30 @@ class TravelTime(NamedTuple):
         return self.seconds / self.cars if self.cars else None
 
 
-def list_arrivals(trips: Trips) -> list[Mapping[int, int | None]]:
-    """Return, by a car's number, the steps in which cars passed each site, and last those in which they left the road."""
-    return [*trips.passed, trips.left]
+def list_sites(trips: Trips) -> list[int | None]:
+    """Return the indexes of all sites, and last None for the road's end."""
+    return [*range(len(trips.sites)), None]
+
+
+def find_arrivals(trips: Trips, site: int | None) -> Mapping[int, int | None]:
+    """Return, by a car's number, the steps in which cars passed a site, or left the road if `site` is None."""
+    if site is None:
+        return trips.left
+    arrivals: Mapping[int, int | None] = trips.passed[site]
+    return arrivals
+
+
+def compute_travel_time(trips: Trips, window: Window, site: int | None, inlet: int | None = None) -> TravelTime:
+    """Return the travel times to a site, or to the road's end if `site` is None, of the cars that arrive there in the window. With
+    `inlet` only cars from that inlet count."""
+    times = [step - entry_step(number) for number, step in find_arrivals(trips, site).items()
+             if step is not None and window.first <= step < window.last and inlet in (None, entry_inlet(number))]
+    return TravelTime(len(times), sum(times))
 
 
 def compute_travel_times(trips: Trips, window: Window, inlet: int | None = None) -> list[TravelTime]:
-    """Return the travel times to each site, of the cars that pass it in the window, and last to the road's end, of those that leave
-    in it. With `inlet` only cars from that inlet count."""
-    found = []
-    for steps in list_arrivals(trips):
-        times = [step - entry_step(number) for number, step in steps.items()
-                 if step is not None and window.first <= step < window.last and inlet in (None, entry_inlet(number))]
-        found.append(TravelTime(len(times), sum(times)))
-    return found
+    """Return the travel times to each site, and last to the road's end."""
+    return [compute_travel_time(trips, window, site, inlet) for site in list_sites(trips)]
 
 
 def compute_travel_times_by_entry(trips: Trips, window: Window, period: int = 60) -> dict[int, list[TravelTime]]:
@@ -269,8 +284,8 @@ def compute_travel_times_by_entry(trips: Trips, window: Window, period: int = 60
 
     Each has the cars that entered in those steps and arrived by the window's end."""
     found: dict[int, list[list[int]]] = {}
-    for place, steps in enumerate(list_arrivals(trips)):
-        for number, step in steps.items():
+    for place, site in enumerate(list_sites(trips)):
+        for number, step in find_arrivals(trips, site).items():
             entry = entry_step(number)
             if step is not None and window.first <= entry and step < window.last:
                 key = window.first + (entry - window.first) // period * period
@@ -310,20 +325,25 @@ class TripsCompared:
         return self.delay / HOUR
 
 
+def compute_delay(before: Trips, after: Trips, window: Window) -> TravelTime:
+    """Return how many of the cars that both roads admitted spend time in the window, and their seconds there, after minus before."""
+    times = [(count_seconds_in(before, number, window), count_seconds_in(after, number, window))
+             for number in before.left.keys() & after.left.keys() if entry_step(number) < window.last]
+    return TravelTime(sum(first + second > 0 for first, second in times), sum(second - first for first, second in times))
+
+
+def compute_delay_at(before: Trips, after: Trips, window: Window, site: int | None) -> TravelTime:
+    """Return how much later cars arrive at a site, or at the road's end if `site` is None: the cars, and their seconds together."""
+    early, late = find_arrivals(before, site), find_arrivals(after, site)
+    found = [second - first for number, first in early.items() if (second := late.get(number)) is not None and first is not None
+             and max(first, second) < window.last and entry_step(number) >= window.first]
+    return TravelTime(len(found), sum(found))
+
+
 def compare_trips(before: Trips, after: Trips, window: Window) -> TripsCompared:
     """Compare two runs of one plan and seed in a window. Cars with the same number are the same car."""
-    both = [number for number in before.left.keys() & after.left.keys() if entry_step(number) < window.last]
-    times = [(count_seconds_in(before, number, window), count_seconds_in(after, number, window)) for number in both]
-    later = []
-    for one, other in zip(list_arrivals(before), list_arrivals(after)):
-        found = []
-        for number in both:
-            first, second = one.get(number), other.get(number)
-            if first is not None and second is not None and max(first, second) < window.last \
-                    and entry_step(number) >= window.first:
-                found.append(second - first)
-        later.append(TravelTime(len(found), sum(found)))
-    return TripsCompared(sum(first + second > 0 for first, second in times), sum(second - first for first, second in times), later,
+    delay = compute_delay(before, after, window)
+    return TripsCompared(delay.cars, delay.seconds, [compute_delay_at(before, after, window, site) for site in list_sites(before)],
                          (count_admitted_cars(before, window), count_admitted_cars(after, window)),
                          (compute_vehicle_hours(before, window), compute_vehicle_hours(after, window)))
 

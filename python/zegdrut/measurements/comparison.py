@@ -4,46 +4,42 @@
     hours = compare_hours(model.measured, days)          # a list of Hour; compute_share_below([hour.geh for hour in hours])
     speeds = compare_speeds(model.measured, days)
 
-GEH = sqrt(2 (M - C)^2 / (M + C)) for M simulated and C measured cars of an *hour*. Five-minute rows are summed first, and an hour with
-a missing row has no GEH. GEH grows with the number of lanes, so each table has it per lane, like all other figures, and for all lanes.
+GEH = sqrt(2 (M - C)^2 / (M + C)) for M simulated and C measured cars of an *hour*. Five-minute rows are summed first. If at least five
+sixths of the rows of an hour are there, both sums are over these rows, and are scaled to the hour; otherwise it has no GEH. GEH grows with the number of lanes, so each table has it per lane, like all other figures, and for all lanes.
 Both speeds are time-mean speeds at a detector.
 """
 from __future__ import annotations
 
 import dataclasses
 import math
-from concurrent.futures import ThreadPoolExecutor
 from dataclasses import dataclass
 from typing import Any, Callable, NamedTuple, Sequence
 
 from ..figures.intervals import Estimate, average_known, estimate_mean
+from ..figures.simulation import read_counts, simulate_days as run_days, split_window
+from ..figures.trips import DetectorCount, Window
 from ..program.errors import Fault
 from ..program.lab import RoadLab
 from ..program.wire import Record
-from ..roads.demand import Effort, Rates, convert_demands, thread_count
+from ..roads.demand import Effort, Rates, convert_demands
 from ..roads.freeway import Figures, Road, make_road, to_rates, warm_up_minutes, widen_inlet, with_warm_up
 from ..roads.road_scripts import Chances, make_commands, make_plan, make_base_edits
-from ..roads.units import HOUR, KMH, count_things, to_km
-from .measured import Measured
+from ..roads.units import HOUR, count_things, to_km
+from .measured import Measured, Series
 
 MOST_AT_INLET = 1_780.0
 """The largest demand of an inlet in cars per hour and lane. The cars above it enter in the following minutes."""
 NOT_WHOLE, NO_COUNT = "no whole hour", "no count"
 """Reasons for which a station hour is left out."""
+ENOUGH = 5 / 6
+"""The share of the intervals of an hour that must be counted: then flows are scaled to the hour."""
 GOOD = 5.0
 """Guidelines require a GEH below this in 85 % of the cases."""
 SAME_PLACE = 0.1
 """The distance in km within which a ramp of the road's file and a ramp station are the same ramp."""
 
 
-class Passed(NamedTuple):
-    """The cars that passed a detector in an interval, and the sum of their speeds in cells per step."""
-
-    cars: int
-    speeds: int
-
-
-Day = list[list[Passed]]
+Day = list[list[DetectorCount]]
 """What passed each compared station in each interval."""
 
 
@@ -161,15 +157,9 @@ def simulate_day(model: Model, seed: int, with_rows: bool = False, with_entries:
         for line in edits:
             lab.ask(line)
         lab.command("advance", "A", to=model.warm + model.window_steps)
-        day: Day = []
-        for detector in model.detectors:
-            passed = []
-            for place in range(model.measured.intervals):
-                first = model.warm + place * model.measured.interval
-                found = lab.count("A", detector, first, first + model.measured.interval)
-                passed.append(Passed(found.cars, found.speeds))
-            day.append(passed)
-        rows = lab.diagram("A", model.warm, model.warm + model.window_steps - 1) if with_rows else []
+        window = Window(model.warm, model.warm + model.window_steps)
+        day = read_counts(lab, "A", model.detectors, split_window(window, model.measured.interval))
+        rows = lab.diagram("A", window.first, window.last - 1) if with_rows else []
         admitted = 0
         for sign, detector in model.gates if with_entries else ():
             admitted += sign * lab.count("A", detector, 0, model.road.steps).cars
@@ -178,19 +168,14 @@ def simulate_day(model: Model, seed: int, with_rows: bool = False, with_entries:
 
 def simulate_days(model: Model, days: int, progress: Callable[[int, int], None] | None = None) -> list[Day]:
     """Simulate days in parallel: the seed of the road, and the ones after it."""
-    found: list[Day] = []
-    with ThreadPoolExecutor(thread_count()) as pool:
-        for day, _, _ in pool.map(lambda seed: simulate_day(model, seed), range(model.seed, model.seed + days)):
-            found.append(day)
-            if progress:
-                progress(len(found), days)
-    return found
+    return run_days(lambda seed: simulate_day(model, seed)[0], range(model.seed, model.seed + days), progress)
 
 
 # Hours
 
 class Hour(NamedTuple):
-    """A station and an hour: measured and simulated flow in cars per hour and lane (mean over the days, half its 95 % interval), and GEH."""
+    """A station and an hour: measured and simulated flow in cars per hour and lane (mean over the days, half its 95 % interval), GEH, and
+    the number of intervals that the station counted. Both flows are of these intervals."""
 
     station: str
     km: float
@@ -200,6 +185,12 @@ class Hour(NamedTuple):
     half: float | None
     geh: float
     geh_all_lanes: float
+    intervals: int
+
+
+def find_counted(series: Series, begin: int, an_hour: int) -> list[int]:
+    """Return the intervals of an hour that a station counted."""
+    return [place for place in range(begin, min(begin + an_hour, len(series.cars))) if series.cars[place] is not None]
 
 
 def compute_geh(simulated: float, measured: float) -> float:
@@ -208,20 +199,21 @@ def compute_geh(simulated: float, measured: float) -> float:
 
 
 def compare_hours(measured: Measured, days: Sequence[Day]) -> list[Hour]:
-    """Compare each station and whole hour of the window in which no interval is missing."""
+    """Compare each station and hour of the window in which enough intervals were counted."""
     found = []
     an_hour = HOUR // measured.interval
     for index, series in enumerate(measured.main[1:]):
-        for begin in range(0, measured.intervals - an_hour + 1, an_hour):
-            counted = series.cars[begin:begin + an_hour]
-            if any(one is None for one in counted):
+        for begin in range(0, measured.intervals, an_hour):
+            places = find_counted(series, begin, an_hour)
+            if len(places) < ENOUGH * an_hour:
                 continue
-            wanted = math.fsum(one or 0.0 for one in counted)
-            flows = [float(sum(one.cars for one in day[index][begin:begin + an_hour])) for day in days]
+            scale = an_hour / len(places)
+            wanted = scale * math.fsum(series.cars[place] or 0.0 for place in places)
+            flows = [scale * sum(day[index][place].cars for place in places) for day in days]
             mean = estimate_days(flows)
             lanes = series.station.lanes
             found.append(Hour(series.station.name, series.station.km, begin * measured.interval, wanted, mean[0], mean[1],
-                              compute_geh(mean[0], wanted), compute_geh(mean[0] * lanes, wanted * lanes)))
+                              compute_geh(mean[0], wanted), compute_geh(mean[0] * lanes, wanted * lanes), len(places)))
     return found
 
 
@@ -239,11 +231,10 @@ def list_left_out(measured: Measured) -> list[LeftOut]:
     an_hour = HOUR // measured.interval
     for series in measured.main[1:]:
         for begin in range(0, measured.intervals, an_hour):
-            counted = series.cars[begin:begin + an_hour]
-            missing = sum(one is None for one in counted)
-            reason = (NOT_WHOLE if len(counted) < an_hour else "" if not missing else NO_COUNT if missing == an_hour
-                      else f"{missing} of {count_things(an_hour, 'row')} missing")
-            if reason:
+            number = len(find_counted(series, begin, an_hour))
+            if number < ENOUGH * an_hour:
+                reason = (NOT_WHOLE if begin + an_hour > measured.intervals else NO_COUNT if not number
+                          else f"{an_hour - number} of {count_things(an_hour, 'row')} missing")
                 found.append(LeftOut(series.station.name, begin * measured.interval, reason))
     return found
 
@@ -276,8 +267,7 @@ class SpeedError(NamedTuple):
 
 def compute_speed(days: Sequence[Day], index: int, place: int) -> float | None:
     """Return the mean of the days' time-mean speeds of an interval in km/h, over the days with a car then, or None without a car."""
-    passed = [day[index][place] for day in days]
-    return average_known([one.speeds / one.cars * KMH if one.cars else None for one in passed])
+    return average_known([day[index][place].time_mean_speed for day in days])
 
 
 def compare_speeds(measured: Measured, days: Sequence[Day]) -> list[SpeedError]:

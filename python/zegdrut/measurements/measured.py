@@ -24,6 +24,12 @@ MOST_FLOW = 3_000.0
 """The highest plausible flow in cars per hour and lane. Higher flows count as missing."""
 COUNTING_ERROR = 0.05
 """The share of the flow that counting errors may lose between two stations."""
+LONGEST_SHIFT, SHORTEST_SHIFT = 7_200, 600
+"""The most and the fewest seconds that a clock is found to be wrong. Cars take less than this from one station to the next."""
+LEAST_GAIN = 2.0
+"""Counts fit clearly better at other times if their misfit is smaller by this factor."""
+FEWEST_PAIRS = 12
+"""The fewest intervals in which two stations are compared."""
 
 
 @dataclass(frozen=True)
@@ -114,11 +120,12 @@ def check_one_day(counts: Counts, clock: Clock) -> None:
         raise Fault(f'{counts.path} has {len(dates)} dates, {dates[0]} to {dates[-1]}: choose one in the file of the road: "date": "{dates[0]}"')
 
 
-def put_on_road(counts: Counts, clock: Clock, seconds: int, origin: float | None = None, is_reversed: bool = False) -> Measured:
+def put_on_road(counts: Counts, clock: Clock, seconds: int, origin: float | None = None, is_reversed: bool = False,
+                checks_ramps: bool = True) -> Measured:
     """Place counts on a road whose run begins when the clock does, and lasts `seconds`.
 
     origin: the km of the station table that is km 0 of the road. The default is 0, or the first main-line station if the table has miles
-    or is reversed. is_reversed: km decrease in the direction of travel.
+    or is reversed. is_reversed: km decrease in the direction of travel. checks_ramps: compare no station after which the flow has fallen.
 
     Fault: the counts do not fit the run, or nothing is left to compare."""
     check_one_day(counts, clock)
@@ -151,8 +158,8 @@ def put_on_road(counts: Counts, clock: Clock, seconds: int, origin: float | None
     if len(lanes_differ) > 1:
         notes.append(f"the stations have {' and '.join(map(str, lanes_differ))} lanes: the model has one lane, so it cannot show how the flow "
                      "per lane changes with the number of lanes")
-    upstream, cut = cut_at_exit(lines, ramps)
-    notes += [cut] if cut else []
+    upstream, cut, doubts = cut_at_exit(lines, ramps) if checks_ramps else (lines, "", [])
+    notes += [*doubts, *([cut] if cut else []), *find_wrong_clocks(lines, interval)]
     joining = [one for one in ramps if one.station.km < upstream[-1].station.km]
     for one in (upstream[0], *joining):
         note_interpolated(one, clock, interval, notes)
@@ -280,18 +287,86 @@ def check_clock_changes(counts: Counts, clock: Clock, seconds: int, notes: list[
                         + ("comes twice; without an offset from UTC the first row of a time belongs to the first hour" if is_back else "is skipped"))
 
 
-def cut_at_exit(lines: list[Series], ramps: list[Series]) -> tuple[list[Series], str]:
-    """Return the stations up to the first one after which the flow falls by more than counting error, and a sentence if there is one."""
+def cut_at_exit(lines: list[Series], ramps: list[Series]) -> tuple[list[Series], str, list[str]]:
+    """Return the stations up to the first one after which the flow falls by more than counting error, a sentence if there is one, and
+    sentences on stations that count more than both neighbours. The flow of these may also rise and fall at ramps without a station."""
+    doubts = []
     for place, (one, following) in enumerate(zip(lines, lines[1:])):
-        both = [index for index, (before, after) in enumerate(zip(one.cars, following.cars)) if before is not None and after is not None]
-        before = math.fsum(one.cars[index] or 0 for index in both)
-        after = math.fsum(following.cars[index] or 0 for index in both)
-        joining = math.fsum(ramp.cars[index] or 0 for ramp in ramps for index in both
-                            if one.station.km <= ramp.station.km < following.station.km)
-        expected = before + joining
-        if expected - after > max(COUNTING_ERROR * expected, 3 * math.sqrt(expected)):
-            return lines[:place + 1], (
-                f"from station {one.station.name} (km {one.station.km:g}) to {following.station.name} (km {following.station.km:g}) "
-                f"the flow per lane falls from {expected:.0f} to {after:.0f} cars, as at an off-ramp, which the model does not have. "
-                f"Only stations up to {one.station.name} are compared")
-    return lines, ""
+        expected, after = compare_flows(one, following, ramps)
+        if not differs(expected, after):
+            continue
+        if place and is_too_high(lines[place - 1], one, following, ramps):
+            doubts.append(f"station {one.station.name} (km {one.station.km:g}) counts {100 * (expected / after - 1):.0f} % more than the stations "
+                          f"before and after it, {lines[place - 1].station.name} and {following.station.name}: cars join before it and leave "
+                          f"after it, which the counts do not show, or {one.station.name} over-counts. In the second case use "
+                          f"{suggest_correction(one, expected, after)}")
+            continue
+        return lines[:place + 1], (
+            f"from station {one.station.name} (km {one.station.km:g}) to {following.station.name} (km {following.station.km:g}) "
+            f"the flow per lane falls from {expected:.0f} to {after:.0f} cars, as at an off-ramp, which the model does not have. "
+            f"Only stations up to {one.station.name} are compared. If there is no off-ramp, {one.station.name} over-counts: then use "
+            f"{suggest_correction(one, expected, after)}. To compare all stations use --no-ramp-check"), doubts
+    return lines, "", doubts
+
+
+def compare_flows(one: Series, following: Series, ramps: list[Series]) -> tuple[float, float]:
+    """Return the cars of a station and of the ramps up to a following one, and the cars of that one, in the intervals that both counted."""
+    both = [index for index, (before, after) in enumerate(zip(one.cars, following.cars)) if before is not None and after is not None]
+    joining = math.fsum(ramp.cars[index] or 0 for ramp in ramps for index in both if one.station.km <= ramp.station.km < following.station.km)
+    return math.fsum(one.cars[index] or 0 for index in both) + joining, math.fsum(following.cars[index] or 0 for index in both)
+
+
+def differs(more: float, less: float) -> bool:
+    """Return whether one flow is above another by more than counting error."""
+    return more - less > max(COUNTING_ERROR * more, 3 * math.sqrt(more))
+
+
+def is_too_high(before: Series, one: Series, following: Series, ramps: list[Series]) -> bool:
+    """Return whether a station counts more than the one before it, and the one after it no less than that one."""
+    expected, counted = compare_flows(before, one, ramps)
+    return differs(counted, expected) and not differs(*compare_flows(before, following, ramps))
+
+
+def suggest_correction(one: Series, expected: float, after: float) -> str:
+    """Return the options that correct a station that over-counts."""
+    return f"--leave-out {one.station.name} or --scale {one.station.name}={after / expected:.3f}"
+
+
+def find_wrong_clocks(lines: list[Series], interval: int) -> list[str]:
+    """Return a sentence for each station whose counts fit those of both neighbours much better at other times, and of a first or last
+    station those of the two next ones."""
+    found = []
+    for place, one in enumerate(lines):
+        others = [*lines[max(place - 1, 0):place], *lines[place + 1:place + 2]]
+        if len(others) == 1:
+            others = lines[1:3] if place == 0 else lines[-3:-1]
+        shifts = [find_shift(one, other, interval) for other in others]
+        if len(shifts) == 2 and min(shifts) * max(shifts) > 0 and max(shifts) - min(shifts) <= 1:
+            shift = min(range(min(shifts), max(shifts) + 1), key=lambda shift: math.fsum(compute_misfit(one, other, shift) for other in others))
+            minutes = abs(shift) * interval // 60
+            names = " and ".join(other.station.name for other in others)
+            found.append(f"the clock of station {one.station.name} seems to be {minutes} minutes {'fast' if shift > 0 else 'slow'}: its counts fit those "
+                         f"of {names} best {minutes} minutes {'earlier' if shift > 0 else 'later'}. Check it, and correct the times or use "
+                         f"--leave-out {one.station.name}")
+    return found
+
+
+def find_shift(one: Series, other: Series, interval: int) -> int:
+    """Return by how many intervals the counts of a station lag behind those of another, or 0 if they fit about as well without a lag."""
+    most = min(LONGEST_SHIFT // interval, len(one.cars) // 3)
+    misfits = {shift: compute_misfit(one, other, shift) for shift in range(-most, most + 1)}
+    best = min(misfits, key=lambda shift: (misfits[shift], abs(shift)))
+    is_clear = abs(best) * interval >= SHORTEST_SHIFT and misfits[0] > LEAST_GAIN * misfits[best]
+    return best if is_clear else 0
+
+
+def compute_misfit(one: Series, other: Series, shift: int) -> float:
+    """Return the mean of (difference of cars)^2 / (sum of cars) of two stations, one of them `shift` intervals later: about 1 if they
+    count the same flow. Their totals are made equal first."""
+    pairs = [(late, early) for place, early in enumerate(other.cars) if 0 <= place + shift < len(one.cars)
+             if early is not None and (late := one.cars[place + shift]) is not None and early + late > 0]
+    totals = [math.fsum(pair[which] for pair in pairs) for which in (0, 1)]
+    if len(pairs) < FEWEST_PAIRS or not all(totals):
+        return math.inf
+    ratio = totals[0] / totals[1]
+    return math.fsum((late - ratio * early) ** 2 / (late + ratio * early) for late, early in pairs) / len(pairs)

@@ -8,20 +8,23 @@ from __future__ import annotations
 
 import contextlib
 import copy
+import errno
+import functools
 import json
 import math
 import os
 import queue
 import select
+import shutil
 import signal
 import subprocess
 import tempfile
 import threading
 import time
 from pathlib import Path
-from typing import IO
+from typing import IO, NamedTuple
 
-from .errors import Ended, LabBroken, LabTimeout, Refused
+from .errors import Ended, LabBroken, LabCancelled, LabTimeout, Refused
 from .programs import NoProgram
 from .refusals import Reasons
 from .wire import Fields, Reply
@@ -29,9 +32,32 @@ from .wire import Fields, Reply
 PIECE = 1 << 20
 """The number of bytes to read at once."""
 GRACE = 5.0
-"""The seconds in which a program or a thread must end."""
+"""The seconds in which a program must end that has closed its output."""
+PATIENCE = 60.0
+"""The seconds in which a killed program and its thread must end."""
+GUARD = ("setpriv", "--pdeathsig", "KILL", "--")
+"""The command that has the kernel kill a program when the thread that started it ends (PR_SET_PDEATHSIG of `man prctl`)."""
+HEADS = (b"\x7fELF", b"#!")
+"""The first bytes of programs and of scripts."""
 LOOK = 1.0
 """The seconds without a reply after which a caller checks that the thread still runs."""
+
+
+@functools.cache
+def find_guard() -> tuple[str, ...]:
+    """Return GUARD, or nothing if it is not installed. Then the program ends once it has finished its present command."""
+    return GUARD if shutil.which(GUARD[0]) else ()
+
+
+class Deadline(NamedTuple):
+    """When a call of a lab must end, which may send several lines.
+
+    until: the time, by `time.monotonic`. seconds: the timeout. cancels: how often calls had been cancelled when this one began.
+    """
+
+    until: float
+    seconds: float
+    cancels: int
 
 
 class Request:
@@ -45,6 +71,11 @@ class Request:
         self.fault: BaseException | None = None
         self.done = threading.Lock()
         self.done.acquire()
+
+    def finish(self) -> None:
+        """Wake the caller, unless `cancel` has done so."""
+        with contextlib.suppress(RuntimeError):
+            self.done.release()
 
     def result(self) -> Reply:
         """Return the reply, or raise the exception of the thread."""
@@ -68,38 +99,57 @@ class Conversation:
         self._complaints: IO[bytes] | None = None
         self._broken: LabBroken | None = None
         self._surplus = b""
+        self._waiting: set[Request] = set()
+        self._cancels = 0
         self._reasons = Reasons()
         self._thread = threading.Thread(target=self._serve, name="zegdrut", daemon=True)
         self._thread.start()
 
-    def ask(self, line: Fields, text: bytes, timeout: float | None = None) -> Reply:
+    def deadline(self, timeout: float | None) -> Deadline:
+        """Return when a call must end that begins now."""
+        seconds = math.inf if timeout is None else timeout
+        return Deadline(time.monotonic() + seconds, seconds, self._cancels)
+
+    def ask(self, line: Fields, text: bytes, deadline: Deadline) -> Reply:
         """Return the program's reply to a line. `text` is the line in JSON.
 
         Refused: the program refuses the line. NoProgram: there is no program. LabBroken: the program has ended, or the
-        conversation was closed. LabTimeout: there was no reply within `timeout` seconds.
+        conversation was closed. LabTimeout: there was no reply before the deadline. LabCancelled: the call was cancelled.
         """
         if os.getpid() != self._owner:
             raise LabBroken("this lab belongs to the process that started it")
         request = Request(line, text)
-        self._requests.put(request)
-        until = math.inf if timeout is None else time.monotonic() + timeout
-        while not request.done.acquire(timeout=max(0.0, min(LOOK, until - time.monotonic()))):
-            if not self._thread.is_alive() and not request.done.acquire(blocking=False):
-                raise self._cause()
-            if time.monotonic() >= until:
-                raise LabTimeout(f"no reply within {timeout:g} s: the program continues, and the next call waits for that")
-        return request.result()
+        self._waiting.add(request)
+        try:
+            if self._cancels != deadline.cancels:
+                raise LabCancelled
+            self._requests.put(request)
+            while not request.done.acquire(timeout=max(0.0, min(LOOK, deadline.until - time.monotonic()))):
+                if not self._thread.is_alive() and not request.done.acquire(blocking=False):
+                    raise self._cause()
+                if time.monotonic() >= deadline.until:
+                    raise LabTimeout(f"no reply within {deadline.seconds:g} s: the program continues, and the next call waits for that")
+            return request.result()
+        finally:
+            self._waiting.discard(request)
+
+    def cancel(self) -> None:
+        """Cancel all calls that have begun. Each raises `LabCancelled`."""
+        self._cancels += 1
+        for request in list(self._waiting):
+            request.fault = LabCancelled()
+            request.finish()
 
     def close(self) -> None:
-        """End the program. Each later call raises `LabBroken`."""
+        """End the program. Each later call raises `LabBroken`. It may be interrupted and repeated."""
         if os.getpid() == self._owner:
             self._break(LabBroken("this lab was closed"))
             self._requests.put(None)
 
     def wait(self) -> None:
-        """Wait until the program has ended, after `close`."""
+        """Wait until the program and its thread have ended, after `close`."""
         if os.getpid() == self._owner and threading.current_thread() is not self._thread:
-            self._thread.join(GRACE)
+            self._thread.join(PATIENCE)
 
     # The thread
 
@@ -109,7 +159,7 @@ class Conversation:
                 request.reply = self._answer(request)
             except BaseException as fault:  # (the caller raises it)
                 request.fault = fault
-            request.done.release()
+            request.finish()
             del request
         self._reap()
 
@@ -136,19 +186,26 @@ class Conversation:
             return "the program gives no reason"
 
     def _start(self) -> subprocess.Popen[bytes]:
-        """Return the program, started in its own process session, so that Ctrl-C in a terminal does not reach it. If ROAD_LAB_GUARD is
-        `setpriv --pdeathsig KILL`, its words are put before the path of the program, and the program ends with this process."""
+        """Return the program, started in its own process session, so that Ctrl-C in a terminal does not reach it.
+
+        It ends with this thread, which waits for it, and so it ends with this process, however the process ends.
+        """
         with self._ending:
             if self._broken is not None:
                 raise self._cause()
             if self._process is None:
-                self._complaints = tempfile.TemporaryFile()
+                path = shutil.which(self._path)
+                if path is None:
+                    raise NoProgram(self._path)
                 try:
-                    guard = os.environ.get("ROAD_LAB_GUARD", "").split()
-                    self._process = subprocess.Popen([*guard, str(self._path)], stdin=subprocess.PIPE, stdout=subprocess.PIPE,
+                    with open(path, "rb") as file:  # (a shell would try to run any other file)
+                        if not file.read(4).startswith(HEADS):
+                            raise OSError(errno.ENOEXEC, os.strerror(errno.ENOEXEC))
+                    self._complaints = tempfile.TemporaryFile()
+                    self._process = subprocess.Popen([*find_guard(), str(self._path)], stdin=subprocess.PIPE, stdout=subprocess.PIPE,
                                                      stderr=self._complaints, bufsize=0, start_new_session=True)
-                except (FileNotFoundError, PermissionError):
-                    raise NoProgram(self._path) from None
+                except OSError as fault:
+                    raise self._break(LabBroken(f"{self._path} could not be started: {fault.strerror}")) from None
             return self._process
 
     def _check_silence(self, process: subprocess.Popen[bytes]) -> None:

@@ -65,3 +65,13 @@ class Ended(LabBroken):
 
 class LabTimeout(LabError, TimeoutError):
     """The reply did not come in time. The program continues with the call, and the next call waits for that."""
+
+
+class LabCancelled(LabError):
+    """The call was cancelled. The program continues with it, and the next call waits for that."""
+
+    def __init__(self) -> None:
+        super().__init__("the call was cancelled: the program continues, and the next call waits for that")
+
+    def __reduce__(self) -> tuple[type[LabCancelled], tuple[()]]:
+        return type(self), ()

@@ -1,6 +1,7 @@
 """Start the program road_lab, send it commands, and return its replies as objects."""
 from __future__ import annotations
 
+import math
 import weakref
 from pathlib import Path
 from types import TracebackType
@@ -8,10 +9,10 @@ from typing import Callable, Iterable, cast
 
 from .bars import Bar
 from .checks import encode_line, check_text, check_object, check_whole
-from .conversation import Conversation
+from .conversation import Conversation, Deadline
 from .grammar import LAST_HORIZON, MOST_ROWS
 from .plan import Plan
-from .programs import program_path
+from .programs import program_path, seconds_left
 from .records import Car, Count, Crowd, Edit, Head, Object, Stamp
 from .rows import Sums, Traffic, add_up
 from .wire import (CarsReply, CellsReply, CountReply, CrowdReply, EditsReply, Fields, HeadsReply, HorizonReply, PlanLine, Reply,
@@ -25,17 +26,18 @@ class RoadLab:
 
     plan: the road, as a `Plan` or as the first line of a script.
     program: the path of the program; by default `zegdrut.programs` finds it.
-    timeout: the seconds that each call waits for its reply; by default there is no limit.
+    timeout: the seconds that each call may take, also one that sends several commands; by default there is no limit.
 
     Each method sends one command and returns its reply. Every method may raise
 
     - `Refused`: the program refuses the command. Nothing has changed.
     - `LabBroken`: the lab was closed, or it belongs to another process. `Ended`: the program has ended.
-    - `LabTimeout`: the reply did not come in time.
+    - `LabTimeout`: the reply did not come in time. `LabCancelled`: another thread called `cancel`.
     - `TypeError`, `ValueError`: an argument has a wrong type, is NaN or is negative. The message begins with its name.
 
-    Threads may share a lab: their calls are carried out one after the other. After an interrupt or a timeout the program
-    continues with the call. The next call waits for that, and gets its own reply.
+    Threads may share a lab: their calls are carried out one after the other. After an interrupt, a timeout or `cancel` the
+    program continues with the call. The next call waits for that, and gets its own reply. The program ends with this process, however
+    the process ends.
     """
 
     def __init__(self, plan: Plan | PlanLine, program: Path | str | None = None, timeout: float | None = None) -> None:
@@ -60,18 +62,33 @@ class RoadLab:
         raise TypeError("a lab belongs to its process and cannot be pickled: send the plan instead, and start a lab there")
 
     def close(self) -> None:
-        """End the program, even during a call. Each later call raises `LabBroken`."""
-        self._end()
+        """End the program and its thread, even during a call. Each later call raises `LabBroken`. After an interrupt, repeat it."""
+        self._conversation.close()
         self._conversation.wait()
+        self._end.detach()
+
+    def cancel(self) -> None:
+        """Cancel the calls of other threads: each raises `LabCancelled`. The lab goes on."""
+        self._conversation.cancel()
 
     def ask(self, line: Fields) -> Reply:
         """Send any line of a script. Return the program's reply."""
-        return self._conversation.ask(line, encode_line(line), self.timeout)
+        return self._ask(line, self._deadline())
 
     def command(self, verb: str, at: str | None = None, /, **fields: object) -> Reply:
         """Send any command, to the replica `at` or to none. Return the program's reply."""
+        return self._command(self._deadline(), verb, at, **fields)
+
+    def _deadline(self) -> Deadline:
+        left = min(math.inf if self.timeout is None else self.timeout, seconds_left())
+        return self._conversation.deadline(None if left == math.inf else left)
+
+    def _command(self, deadline: Deadline, verb: str, at: str | None = None, /, **fields: object) -> Reply:
         named: Fields = {} if at is None else {"at": check_text("at", at)}
-        return self.ask({verb: {**named, **fields}})
+        return self._ask({verb: {**named, **fields}}, deadline)
+
+    def _ask(self, line: Fields, deadline: Deadline) -> Reply:
+        return self._conversation.ask(line, encode_line(line), deadline)
 
     # Edits
 
@@ -122,18 +139,19 @@ class RoadLab:
         standard error is a terminal. After an interrupt the replica is at the end of a piece, and the same call continues.
 """
         to, piece = check_whole("to", to), max(check_whole("piece", piece), 1)
-        horizon = self._advance(at, to if to > LAST_HORIZON else 0)
+        deadline = self._deadline()
+        horizon = self._advance(at, to if to > LAST_HORIZON else 0, deadline)
         first, bar = horizon, Bar()
         try:
             while horizon < to:
-                horizon = self._advance(at, min(to, horizon + piece))
+                horizon = self._advance(at, min(to, horizon + piece), deadline)
                 (progress or bar.show)(horizon - first, to - first)
         finally:
             bar.end()
         return horizon
 
-    def _advance(self, at: str, to: int) -> int:
-        return cast(HorizonReply, self.command("advance", at, to=to))["horizon"]
+    def _advance(self, at: str, to: int, deadline: Deadline) -> int:
+        return cast(HorizonReply, self._command(deadline, "advance", at, to=to))["horizon"]
 
     def cells(self, at: str, step: int) -> str:
         """Return the row of a step: a digit is the speed of a car, "." an empty cell, "#" a blocked cell."""
@@ -165,10 +183,10 @@ class RoadLab:
 
     def _diagrams(self, at: str, first: int, to: int) -> Iterable[list[str]]:
         """Yield lists of rows, each as long as one diagram may be."""
-        first, to = check_whole("first", first), check_whole("to", to)
+        first, to, deadline = check_whole("first", first), check_whole("to", to), self._deadline()
         for start in range(first, to + 1, MOST_ROWS):
             fields = {"from": start, "to": min(to, start + MOST_ROWS - 1)}
-            yield cast(RowsReply, self.command("diagram", at, **fields))["rows"]
+            yield cast(RowsReply, self._command(deadline, "diagram", at, **fields))["rows"]
 
     # Apart from the replicas
 

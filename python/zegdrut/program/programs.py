@@ -7,14 +7,19 @@ The file PATH.made next to a program records its source text. `tools/prove-progr
 """
 from __future__ import annotations
 
+import contextlib
+import contextvars
 import functools
 import hashlib
 import json
+import math
 import os
 import shutil
 import sys
+import time
 from dataclasses import asdict, dataclass
 from pathlib import Path
+from typing import Iterator
 
 from .errors import LabError
 
@@ -22,6 +27,8 @@ ROOT = Path(__file__).resolve().parents[3]
 CRATES = ROOT / "crates"
 PROVED = CRATES / "road_lab" / "out" / "road_lab"
 UNPROVED = PROVED.with_name("road_lab_unproved")
+_USED: contextvars.ContextVar[Path | str | None] = contextvars.ContextVar("program", default=None)
+_UNTIL = contextvars.ContextVar("until", default=math.inf)
 PARTS = ("src", "specs", "proofs")
 """The folders of a crate that determine the program."""
 
@@ -54,12 +61,14 @@ class Made:
     program: the SHA-256 of the program itself.
     proved: whether it is proved.
     checks: whether it contains the compiler's run-time checks.
+    kit: the line that names the kit, or None in a record that does not have it.
     """
 
     text: str
     program: str
     proved: bool
     checks: bool
+    kit: str | None = None
 
 
 def list_crates(name: str) -> dict[str, list[str]]:
@@ -90,9 +99,9 @@ def sum_file(path: Path) -> str:
     return hashlib.sha256(path.read_bytes()).hexdigest()
 
 
-def write_record(path: Path, text: str, proved: bool, checks: bool) -> None:
-    """Write the record next to a program: the SHA-256 of its source text, and whether it is proved and has checks."""
-    made = Made(text, sum_file(path), proved, checks)
+def write_record(path: Path, text: str, proved: bool, checks: bool, kit: str | None = None) -> None:
+    """Write the record next to a program: the SHA-256 of its source text, whether it is proved and has checks, and its kit."""
+    made = Made(text, sum_file(path), proved, checks, kit)
     path.with_name(path.name + ".made").write_text(json.dumps(asdict(made)) + "\n", encoding="utf-8")
 
 
@@ -103,6 +112,18 @@ def read_record(path: Path) -> Made | None:
         return made if made.program == sum_file(path) else None
     except (OSError, ValueError, TypeError):
         return None
+
+
+def describe_program(path: Path | str | None = None) -> str:
+    """Return a line that distinguishes programs: the SHA-256 of the source text, whether it is proved, and the kit. Without a record it
+    has the SHA-256 of the file; without a program it is "none". By default the program is the one that `find_program` finds."""
+    path = Path(path or find_program())
+    if not path.is_file():
+        return "none"
+    made = read_record(path)
+    if made is None:
+        return f"file {sum_file(path)}"
+    return f"text {made.text}, {'proved' if made.proved else 'not proved'}" + (f", {made.kit}" if made.kit else "")
 
 
 def describe_standing(path: Path | str) -> str | None:
@@ -153,11 +174,32 @@ def program_path() -> Path:
     proved one or only the unproved one is up to date. Outside the repository it is `road_lab` on the PATH. If there is no
     program at all, it is the path that the proved one would have.
     """
-    given = os.environ.get("ROAD_LAB")
-    path = Path(given) if given else choose_program()
+    path = find_program()
     if path.exists():
         print_standing_once(path)
     return path
+
+
+def find_program() -> Path:
+    """Return the path of the program, as `program_path` does, without a note. In `using_program` it is the one given there."""
+    given = _USED.get() or os.environ.get("ROAD_LAB")
+    return Path(given) if given else choose_program()
+
+
+@contextlib.contextmanager
+def using_program(path: Path | str | None, timeout: float | None = None) -> Iterator[None]:
+    """Let labs that are opened in this block use a program, unless they name one, and end their calls after `timeout` seconds in all."""
+    used, until = _USED.set(path or _USED.get()), _UNTIL.set(math.inf if timeout is None else time.monotonic() + timeout)
+    try:
+        yield
+    finally:
+        _USED.reset(used)
+        _UNTIL.reset(until)
+
+
+def seconds_left() -> float:
+    """Return the seconds that are left in the block of `using_program`, or infinity."""
+    return _UNTIL.get() - time.monotonic()
 
 
 def choose_program() -> Path:

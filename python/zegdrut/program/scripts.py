@@ -79,10 +79,16 @@ def choose_replica(lab: RoadLab, at: str | None) -> str:
     return at or lab.plan["replicas"][0]
 
 
+def advance_both(labs: list[RoadLab], at: str | None) -> int:
+    """Simulate both runs up to the later of their two horizons, and return it."""
+    horizon = max(lab.advance(choose_replica(lab, at), 0) for lab in labs)
+    return max(lab.advance(choose_replica(lab, at), horizon) for lab in labs)
+
+
 def follow_both(labs: list[RoadLab], at: str | None) -> tuple[Trips, Trips]:
     """Return the trips of both runs up to the later of their two horizons."""
-    horizon = max(lab.advance(choose_replica(lab, at), 0) for lab in labs)
+    horizon = advance_both(labs, at)
     before, after = (Trips(lab.plan) for lab in labs)
     for lab, trips in zip(labs, (before, after)):
-        trips.follow(lab, choose_replica(lab, at), lab.advance(choose_replica(lab, at), horizon))
+        trips.follow(lab, choose_replica(lab, at), horizon)
     return before, after

@@ -11,13 +11,15 @@ from pathlib import Path
 from typing import Sequence
 
 from ..figures.intervals import CHANCE, FEW_DAYS, warn_few_days
+from ..figures.simulation import RoadRun
+from ..figures.table import FigureRow
 from ..figures.trips import Window
 from ..program.programs import program_path, read_record, sum_file
 from ..roads.clock import Clock
 from ..roads.demand import Rates
 from ..roads.units import CELLS_A_KM, count_things, format_fixed, format_km, to_km
 from .pictures import AFTER, BEFORE, INLETS, Chart, Line, draw_field, draw_scale, make_speed_field
-from .report import PERIOD, Row, Side, SideDay, make_flow_series, make_speed_series
+from .report import PERIOD, Side, make_flow_series, make_speed_series
 
 CELLS_A_PIECE, STEPS_A_PIECE = 7, 30
 NO_SPEED_BANDS = ('<p class="note">The charts of speeds have no intervals: on some days no car may pass in a period, and such a day has no '
@@ -57,8 +59,8 @@ class Contents:
     """The length of the road in cells."""
     detectors: Sequence[int]
     sides: Sequence[Side]
-    days: Sequence[Sequence[SideDay]]
-    rows: Sequence[Row]
+    days: Sequence[Sequence[RoadRun]]
+    rows: Sequence[FigureRow]
     seed: int | str
     closed: Sequence[Sequence[tuple[int, int, float, float]]] = field(default_factory=list)
     """For each side its closures, as (from step, to step, from km, to km)."""
@@ -68,27 +70,16 @@ class Contents:
     """A chart of the demand over time as SVG."""
 
 
-def format_number(value: float | None, digits: int = 1) -> str:
-    """Return a number for the table; an empty string if it is unknown."""
-    return "" if value is None else format_fixed(value, digits, ",")
-
-
-def count_digits(name: str) -> int:
-    """Return the number of decimals of a figure."""
-    return 2 if "vehicle hours" in name else 0 if "cars" in name else 1
-
-
-def make_table_html(sides: Sequence[Side], rows: Sequence[Row], days: int) -> str:
+def make_table_html(sides: Sequence[Side], rows: Sequence[FigureRow], days: int) -> str:
     """Return the table of figures as HTML."""
     head = "".join(f"<th>{escape(side.name)}</th><th>±</th>" for side in sides)
     head += "<th>difference</th><th>±</th><th></th>" if len(sides) == 2 else ""
     lines = []
     for row in rows:
-        digits = count_digits(row.name)
-        cells = [format_number(value, digits) for pair in row.sides for value in pair]
-        if len(sides) == 2:
-            cells += [*(format_number(value, digits) for value in row.difference or (None, None)), CHANCE * bool(row.may_be_chance)]
-        lines.append(f"<tr><td>{escape(row.name)}</td>" + "".join(f"<td>{cell}</td>" for cell in cells) + "</tr>")
+        shown = (row.before, row.after, row.difference) if len(sides) == 2 else (row.after,)
+        cells = [format_fixed(value, row.figure.digits, ",") for mean in shown for value in mean]
+        cells += [CHANCE * bool(row.may_be_chance)] if len(sides) == 2 else []
+        lines.append(f"<tr><td>{escape(row.figure.title)}</td>" + "".join(f"<td>{cell}</td>" for cell in cells) + "</tr>")
     said = ("± is half the 95 % interval of the mean (Student's t), in the unit of its row; for the difference it is paired by day. "
             f"“{CHANCE}”: the interval of the difference contains 0; a figure that does not differ on any day has no remark. A speed is the mean of the days' time-mean speeds." if days > 1
             else "One day has no interval.")

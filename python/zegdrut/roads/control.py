@@ -15,10 +15,8 @@ from __future__ import annotations
 
 import math
 from dataclasses import dataclass
-from itertools import accumulate
-from typing import Callable, Iterable, NamedTuple, Sequence
+from typing import Callable, Iterable, Sequence
 
-from ..figures.trips import Trips, entry_inlet, entry_step
 from ..program.lab import RoadLab
 from .demand import Admission, Rates, count_demand, find_rate
 from .units import HOUR, KMH
@@ -125,22 +123,3 @@ class RampMeter(Controller):
         wanted = max(find_rate(self.arrivals, view.last) + self.queue * HOUR / PERIOD, 0.0)
         admission = self.admission(view.last)
         return [("inflow", self.inlet, admission.chance(min(rate, wanted, admission.flow(admission.chances[-1]))))]
-
-
-class Queue(NamedTuple):
-    """The vertical queue before an inlet in a run: its sum over all seconds in vehicle hours, and the longest one in cars."""
-
-    vehicle_hours: float
-    longest: float
-
-
-def measure_queue(trips: Trips, inlet: int, arrivals: Rates) -> Queue:
-    """Measure the queue before an inlet in the whole run: in each second the arrivals up to then, minus the cars admitted up to then.
-
-    Arrivals are a steady flow and cars enter at random, so the queue of a free inlet varies around 0 and is negative at times."""
-    admitted = [0] * trips.horizon
-    for number in trips.left:
-        if entry_inlet(number) == inlet:
-            admitted[entry_step(number)] += 1
-    queue = [count_demand(arrivals, 0, step + 1) - cars for step, cars in enumerate(accumulate(admitted))]
-    return Queue(sum(queue) / HOUR, max(queue, default=0.0))

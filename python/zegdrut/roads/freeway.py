@@ -214,17 +214,25 @@ def find_limit(notes: list[str], what: str, kmh: float) -> int:
 
 
 def choose_zone_width(notes: list[str], figures: Figures, length: int) -> int:
-    """Return the width of a zone in cells: the given one, or the one whose bounds are nearest to the ends of the sections."""
+    """Return the width of a zone in cells: the given one, or the one whose zones cover the sections best."""
     least = -(-length // MOST_ZONES)
     if figures.zone is not None:
         width = note_if_rounded(notes, "a zone of", figures.zone, "km", max(to_cells(figures.zone), 1), to_km)
         if width < least:
             raise Fault(f"zones of {figures.zone:g} km are more than {MOST_ZONES}: use at least {to_km(least):g} km")
         return width
-    ends = [km * CELLS_A_KM for section in figures.sections for km in (section.first, section.last)]
-    ends += [figures.entry * CELLS_A_KM] if figures.entry else []
     # Among widths that fit equally well, take the widest.
-    return min(range(length, least - 1, -1), key=lambda width: sum(abs(find_bound(end, width, length) - end) for end in ends))
+    return min(range(length, least - 1, -1), key=lambda width: sum_misfit(figures, width, length))
+
+
+def sum_misfit(figures: Figures, width: int, length: int) -> float:
+    """Return how far the ends of the sections and of the entry lie from those of the zones that cover them, in cells."""
+    found = 0.0
+    for section in figures.sections:
+        zones = find_covering_zones(section, width, length)
+        found += abs(zones.start * width - section.first * CELLS_A_KM) + abs(min(zones.stop * width, length) - section.last * CELLS_A_KM)
+    entry = (figures.entry or 0.0) * CELLS_A_KM
+    return found + abs(find_bound(entry, width, length) - entry)
 
 
 def find_bound(place: float, width: int, length: int) -> int:
@@ -233,9 +241,14 @@ def find_bound(place: float, width: int, length: int) -> int:
 
 
 def find_zones(section: Section, road: Road) -> range:
-    """Return the zones between the bounds nearest to the ends of a section, at least one zone."""
-    first, last = (-(-find_bound(km * CELLS_A_KM, road.zone, road.length) // road.zone) for km in (section.first, section.last))
-    first = min(first, road.zones - 1)
+    """Return the zones of a section."""
+    return find_covering_zones(section, road.zone, road.length)
+
+
+def find_covering_zones(section: Section, width: int, length: int) -> range:
+    """Return the zones between the bounds nearest to the ends of a section, at least one zone. The last zone of a road may be narrower."""
+    first, last = (-(-find_bound(km * CELLS_A_KM, width, length) // width) for km in (section.first, section.last))
+    first = min(first, -(-length // width) - 1)
     return range(first, max(last, first + 1))
 
 

@@ -82,9 +82,9 @@ def count_things(number: int, thing: str, things: str | None = None) -> str:
     return f"{number:,} {thing if number == 1 else things or thing + 's'}"
 
 
-def format_fixed(number: float, digits: int, separator: str = "") -> str:
-    """Return a number with some decimals, never "-0.0". separator: "," between thousands, or nothing."""
-    return f"{round(number, digits) + 0.0:{separator}.{digits}f}"
+def format_fixed(number: float | None, digits: int, separator: str = "") -> str:
+    """Return a number with some decimals, never "-0.0"; an empty string if it is unknown. separator: "," between thousands, or nothing."""
+    return "" if number is None else f"{round(number, digits) + 0.0:{separator}.{digits}f}"
 
 
 def format_plain(number: float) -> str:

@@ -1,18 +1,20 @@
-"""Measure how many cars per hour an inlet admits with each inflow chance, by the package zegdrut.demand.
+"""Measure how many cars per hour an inlet admits with each inflow chance, by the package zegdrut.
 
-As a program, this module reads an `Inflow` from each line of standard input, and prints a `Curve` in a line.
+As a child, this module answers an `Inflow` with its `Curve`.
 """
 from __future__ import annotations
 
 import asyncio
 import contextlib
 import json
-import sys
 from pathlib import Path
-from typing import Sequence, TypedDict
+from typing import Iterator, Sequence, TypedDict
+
+from zegdrut.roads.demand import Drivers, Effort, Inlet, measure_admission
+from zegdrut.roads.units import ALWAYS
 
 from ..journal.journal import to_json
-from . import figures
+from . import child
 
 NICE = 8
 POINTS = 128  # intervals of a curve; interpolation between two points is off by less than 0.1 cars per hour
@@ -26,7 +28,7 @@ Curve = TypedDict("Curve", {"points": Sequence["tuple[int, float]"], "capacity":
 """What an inlet admits: `points` are (chance in 1/65,536, cars per hour) in rising chances; `capacity` is the maximum."""
 
 
-class Admissions(figures.Beside[Inflow, Curve]):
+class Curves(child.Child[Inflow, Curve]):
     """Measures curves one at a time, each only once: a file of the folder keeps them over restarts."""
 
     def __init__(self, folder: Path) -> None:
@@ -71,12 +73,10 @@ def read_kept(path: Path) -> dict[str, Curve]:
     return found
 
 
-# The program
+# In the child
 
-def measure_curve(asked: Inflow) -> Curve:
-    """Measure the curve of an inlet. If there are inlets upstream, measure at fewer chances, since each takes longer."""
-    from zegdrut.roads.demand import Drivers, Effort, Inlet, measure_admission
-    from zegdrut.roads.units import ALWAYS
+def measure_curve(asked: Inflow) -> Iterator[Curve]:
+    """Yield the curve of an inlet. If there are inlets upstream, measure at fewer chances, since each takes longer."""
     drivers = Drivers(asked["limit"], asked["slowing"], asked["start"], asked["entry"])
     before = [Inlet(*inlet) for inlet in asked["before"]]
     effort = Effort(may_refine=False, is_fine=True) if before else Effort()
@@ -84,15 +84,8 @@ def measure_curve(asked: Inflow) -> Curve:
     chances = [round(ALWAYS * place / POINTS) for place in range(POINTS + 1)]
     flows = [found.admitted(chance) for chance in chances]
     points = [(chance, max(flows[:place + 1])) for place, chance in enumerate(chances)]  # flows never fall: the rest is noise
-    return {"points": points, "capacity": max(flows)}
-
-
-def main() -> None:
-    """Measure a curve for each line of standard input."""
-    figures.leave_one_free()
-    for line in sys.stdin:
-        print(json.dumps(measure_curve(json.loads(line))), flush=True)
+    yield {"points": points, "capacity": max(flows)}
 
 
 if __name__ == "__main__":
-    main()
+    child.serve(measure_curve)

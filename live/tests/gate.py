@@ -1,0 +1,289 @@
+"""Test that a server confirms only what its next start reads and what every other site takes.
+
+Random gestures of every verb, with hostile texts, shapes, times and sizes, go through a real tab. After each 20 of them the server is
+killed and started again, and a second site must hold what was shared: as many gestures as the gate has time for, with `--all` 20,000.
+"""
+from __future__ import annotations
+
+import base64
+import collections
+import hmac
+import itertools
+import json
+import random
+import shutil
+from typing import Any, Iterator
+
+from faulty import Bus, Here
+from running import ALL, Broker, Case, Server, end, until
+from server.journal.journal import CorruptJournal, journal_line, to_json
+from server.model.reading import LONGEST_NAME, LONGEST_NOTE, clean_text
+from server.tabs.client import RefusedReply
+from server.tabs.refusals import Refused
+
+MOST, EACH, FOLDER = 20_000 if ALL else 300, 20, 1_000  # gestures: in all, before each restart, in a folder
+PATIENCE = 60.0  # seconds until a second site must hold what was shared
+LEAST = 0.5  # the part of the gestures of a verb that must be confirmed, else they try nothing
+TEXTS = ["", "works", "x" * 199 + " y", "x" * 200, "a \u200b b", "\u202eabc", " a ", "a\tb\nc", "\ufeff", "é" * 300, "\u2066a\u2069", "\x00a",
+         "a\u00a0b", "\u3000", "👩‍💻", "a" * 63 + " b", "\ufffe", "\ue000", "x" * 70, "\u2028a", "\U000e0041", '"\\', "\ud7ff"]
+KINDS = {"block": (120, 1), "limit": (6, 9), "slow": (6, 65_536), "start": (6, 65_536), "inflow": (2, 65_536), "watch": (3, 1)}
+HOSTILE: list[Any] = [None, -1, 0, 1, 5, 1 << 20, (1 << 20) + 1, 1 << 31, 1 << 32, 1 << 53, 10 ** 30, 0.5, True, "", "x", [], {}, [1, 65]]
+Command = tuple[str, dict[str, Any]]
+
+
+def operations_of(reply: Any) -> list[str]:
+    """Return the operations of a reply as texts, which can be compared."""
+    return sorted(json.dumps({name: value for name, value in one.items() if name != "shared"}, sort_keys=True)
+                  for one in reply["operations"])
+
+
+class Hand:
+    """Makes random commands: most of them valid, the others with a hostile part."""
+
+    def __init__(self, seed: int) -> None:
+        self.draw = random.Random(seed)
+        self.keys: list[str] = []  # of changes that may be changed or undone
+        self.edited: list[dict[str, Any]] = []  # raw edits that may be withdrawn
+        self.out: set[int] = set()  # excluded sites
+        self.numbers = itertools.count(seed * 1_000_000)
+
+    def shape(self, faults: float = 0.2) -> list[Any]:
+        """Return a shape; as many as `faults` says have a hostile part, or end before they begin."""
+        draw, kind = self.draw, self.draw.choice([*KINDS])
+        objects, most = KINDS[kind]
+        first, begin = draw.randrange(objects), draw.randrange(3_000)
+        made: list[Any] = [kind, first, min(objects - 1, first + draw.randrange(4)), begin, draw.choice([None, begin + draw.randint(1, 900)]),
+                           draw.randint(0, most)]
+        fault = draw.random()
+        if fault < faults / 2:
+            made[draw.randrange(6)] = draw.choice(HOSTILE)
+        elif fault < faults:
+            made[1:3], made[3:5] = draw.choice([(made[2:0:-1], made[3:5]), (made[1:3], [begin + 1, begin]), (made[1:3], [begin, begin])])
+        return made
+
+    def edits(self) -> list[list[Any]]:
+        found = []
+        for _ in range(self.draw.choice([1, 1, 2, 5])):
+            kind = self.draw.choice([*KINDS])
+            objects, most = KINDS[kind]
+            found.append([kind, self.draw.randrange(objects), self.draw.randrange(3_000), self.draw.choice([None, 0, most, most // 2])])
+        return found
+
+    def commands(self) -> Iterator[Command]:
+        """Yield commands without end, each verb as often as the others."""
+        while True:
+            for make in (self.put, self.change, self.lift, self.raw, self.edit, self.withdraw, self.undo, self.again, self.site):
+                yield make()
+
+    def key(self) -> dict[str, Any]:
+        return {"key": f"k{next(self.numbers)}", "note": self.draw.choice(TEXTS)}
+
+    def made(self) -> str:
+        """Return the key of an operation that this tab has made, mostly a late one."""
+        return self.draw.choice(self.keys[-12:] or ["none"])
+
+    def confirm(self, verb: str, fields: dict[str, Any]) -> None:
+        """Note a command that was confirmed."""
+        if verb in ("put", "change", "raw"):
+            self.keys.append(fields["key"])
+        elif verb in ("undo", "lift") and fields.get("stamp", fields.get("layer")) in self.keys:
+            self.keys.remove(fields.get("stamp", fields.get("layer")))
+        elif verb == "edit":
+            self.edited.append({"object": fields["object"], "step": fields["step"]})
+        elif verb == "site":
+            self.out ^= {fields["site"]}
+
+    def put(self) -> Command:
+        shape = self.shape()
+        demand = {"demand": self.draw.choice([0, 700.25, 1e4, 0.1, *HOSTILE[-3:]])} if shape[0] == "inflow" else {}
+        return "put", {**self.key(), "shape": shape, **demand}
+
+    def change(self) -> Command:
+        shape = None if self.draw.random() < 0.2 else self.shape()
+        return "change", {**self.key(), "layer": self.made(), "shape": shape, "top": self.draw.random() < 0.5}
+
+    def lift(self) -> Command:
+        return "lift", {**self.key(), "layer": self.made(), "top": True}
+
+    def raw(self) -> Command:
+        drawn = {"shape": self.shape(0.4)} if self.draw.random() < 0.7 else {}
+        return "raw", {**self.key(), "edits": self.edits(), **drawn}
+
+    def edit(self) -> Command:
+        kind, index, step, value = self.edits()[0]
+        return "edit", {"object": [kind, index], "step": step, "value": value}
+
+    def withdraw(self) -> Command:
+        return "withdraw", self.edited.pop() if self.edited else {"object": ["block", 0], "step": 0}
+
+    def undo(self) -> Command:
+        return "undo", {**self.key(), "stamp": self.keys[-1] if self.keys else "none"}
+
+    def again(self) -> Command:
+        return "again", {"key": self.key()["key"], "stamp": self.made()}
+
+    def site(self) -> Command:
+        site = self.draw.choice([3, 7, 8, 9, 1_022, 1_023, 1_024, 1, 0])
+        return "site", {**self.key(), "site": site, "out": site not in self.out}
+
+
+class Gate(Case):
+    def sites(self, broker: Broker) -> tuple[Server, Server]:
+        first, second = (self.server("--broker", broker.address, "--site", str(site)) for site in (1, 2))
+        return first, second
+
+    async def test_what_is_confirmed_is_read_by_the_next_start_and_by_every_site(self) -> None:
+        tried, confirmed = collections.Counter[str](), collections.Counter[str]()
+        for seed in range(0, -(-MOST // FOLDER)):
+            broker = self.broker()
+            first, second = self.sites(broker)
+            await self.try_gestures(first, second, Hand(seed), min(MOST, FOLDER), tried, confirmed)
+            for process, folder in ((one.process, one.folder) for one in [first, second]):
+                end(process)
+                shutil.rmtree(folder)
+            end(broker.process)
+        for verb, count in tried.items():
+            self.assertGreaterEqual(confirmed[verb], LEAST * count, (verb, confirmed, tried))
+
+    async def try_gestures(self, first: Server, second: Server, hand: Hand, most: int, tried: collections.Counter[str],
+                           confirmed: collections.Counter[str]) -> None:
+        commands = hand.commands()
+        async with second.seat("Sam") as sam:
+            seat = first.seat(f"{hand.draw.choice(TEXTS)} Ada \u200b \u202e")
+            for _ in range(most // EACH):
+                async with seat as tab:
+                    for verb, fields in itertools.islice(commands, EACH):
+                        tried[verb] += 1
+                        reply = await tab.reply("gesture" if verb in ("put", "change", "lift", "raw") else verb, at=tab.at, **fields)
+                        if "refused" not in reply:
+                            confirmed[verb] += 1
+                            hand.confirm(verb, fields)
+                    own = operations_of(await tab.say("operations", at=tab.at))
+                    await tab.ask("send", name="shared", title=hand.draw.choice(TEXTS))
+                    shared = operations_of(await tab.say("operations", at="shared"))
+                first.restart()
+                seat = first.seat(key=tab.key)
+                async with seat as tab:
+                    self.assertIsNone(tab.welcome["trouble"])  # else it would say what cannot be read
+                    self.assertLessEqual({*operations_of(await tab.say("operations", at=tab.at))}, {*own})  # a start forgets some
+                    self.assertEqual(operations_of(await tab.say("operations", at="shared")), shared)
+                seat = first.seat(key=tab.key)
+
+                async def holds() -> bool:
+                    return operations_of(await sam.say("operations", at="shared")) == shared
+                await until(holds, "the second site takes what was confirmed at the first", PATIENCE)
+
+    async def test_a_drawn_shape_that_no_site_reads_is_refused(self) -> None:
+        async with Here() as here:
+            await here.join("Ada")
+            for drawn in (["block", 3, 3, 30, 20, 1], ["block", 4, 3, 20, 30, 1], ["block", 3, 3, 20, 20, 1]):
+                with self.assertRaises(Refused) as refused:
+                    await here.ask(1, "gesture", key="k", edits=[["block", 3, 20, 1]], shape=drawn)
+                self.assertEqual(refused.exception.text, "not a command", drawn)
+            self.assertEqual([kind for entry in here.entries() for kind in entry], ["lab", "seat"])
+
+    async def test_texts_are_cleaned_once_for_all(self) -> None:
+        """A clean text stays as it is, so each site reads it."""
+        bus = Bus()
+        one, two = [await self.enterAsyncContext(Here(site=number)) for number in (1, 2)]
+        bus.site(one), bus.site(two)
+        await one.join("Ada")
+        cases = {"x" * 199 + " y": "x" * 199, "a \u200b b": "a b", "\u202eabc": "abc", "a\tb\nc": "a b c", "\ufeff": "", "é" * 300: "é" * 200}
+        for step, note in enumerate(cases):
+            await one.ask(1, "gesture", key=f"k{step}", note=note, shape=["limit", 2, 2, step, None, 3])
+        await one.share(1)
+        await bus.carry()
+        self.assertEqual([(each.about.who, each.about.note) for each in two.lab.state.shared.operations()],
+                         [("Ada", note) for note in cases.values()])
+        for text in TEXTS:
+            for most in (LONGEST_NAME, LONGEST_NOTE):
+                self.assertEqual(clean_text(clean_text(text, most), most), clean_text(text, most), ascii(text))
+
+    async def test_nobody_can_sign_a_key(self) -> None:
+        """A key that somebody signed with the token gives no seat; and one that the server signed gives none for a name that `hello`
+        would refuse."""
+        server = self.server()
+        for secret, long in ((server.address.partition("/#")[2].encode(), "Ada"), ((server.folder / "secret").read_bytes(), "x" * 71)):
+            said = f"1.{long}"
+            seal = base64.urlsafe_b64encode(hmac.digest(secret, f"abcdefgh.{said}".encode(), "sha256")[:12]).decode()
+            with self.assertRaises(RefusedReply) as refused:
+                await self.enterAsyncContext(server.seat(key=f"abcdefgh{seal}.{said}"))
+            self.assertEqual(refused.exception.reply["refused"], "UnknownKey", long)
+        async with server.seat("\u2066Ada \u200b Byron\u2069") as ada:
+            self.assertEqual(ada.welcome["name"], "Ada Byron")
+
+    async def test_an_operation_that_cannot_be_read_is_kept_aside(self) -> None:
+        """It keeps its place and its key, is in no road and is not sent, and is tried again at each start."""
+        async with Here() as here:
+            await here.join("Ada", "Ben")
+            await here.ask(1, "gesture", key="a", shape=["limit", 1, 1, 10, None, 3], note="first")
+            await here.ask(1, "gesture", key="b", shape=["limit", 2, 2, 10, None, 3], note="second")
+            await here.ask(1, "gesture", key="c", shape=["limit", 3, 3, 10, None, 3], note="third")
+            await here.share(1)
+            for key, undone in (("d", "b"), ("e", "d")):
+                await here.ask(1, "undo", key=key, stamp=undone, note=key)
+                await here.share(1)
+            await here.take(2)
+            await here.ask(1, "gesture", key="f", shape=["limit", 4, 4, 10, None, 3], note="fourth")
+            before = [*here.lab.state.shared.places]
+        self.alter(here, lambda one: one["operation"].update(who="x" * 65) if one["operation"].get("note") in ("second", "fourth") else None)
+        for _ in range(2):
+            async with Here(here.folder) as again:
+                self.assertEqual(self.aside(again), ["second", "fourth"])
+                state, shared = again.lab.state, again.lab.state.shared
+                self.assertEqual([one.stamp for one in shared.places], [one.stamp for one in before])
+                self.assertEqual(state.seats[2].upto, len(before))
+                self.assertEqual(sorted(one.first for one in shared.road.layers.values()), [1, 3])
+                self.assertEqual(sorted(one.about.note for one in shared.road.record.operations()), ["d", "e", "first", "third"])
+                self.assertIn("2 changes in the journal cannot be read", again.keeper.trouble or "")
+                self.assertTrue((await again.ask(1, "gesture", key="b", shape=["limit", 2, 2, 10, None, 3]))["again"])
+                self.assertTrue((await again.ask(1, "gesture", key="f", shape=["limit", 2, 2, 10, None, 3]))["again"])
+                bus = Bus()
+                site = bus.site(again)
+                site._send_unreturned()
+                sent = [one for message in bus.sent if message.topic.endswith("operations")
+                        for one in json.loads(message.payload)["operations"]]
+                self.assertEqual([one.get("note") for one in sent], ["first", "third", "d", "e"])
+                with self.assertRaises(Refused):
+                    await again.ask(1, "leave")  # the change that cannot be read would be lost
+                await again.keeper.compact()
+        self.alter(here, lambda one: one["operation"].update(who="Ada"))
+        async with Here(here.folder) as mended:
+            self.assertEqual(self.aside(mended), [])
+            self.assertIsNone(mended.keeper.trouble)
+            self.assertEqual(sorted(one.first for one in mended.lab.state.shared.road.layers.values()), [1, 2, 3])
+            self.assertEqual(sorted(one.first for one in mended.lab.state.seats[1].road.layers.values()), [1, 2, 3, 4])
+
+    def aside(self, here: Here) -> list[Any]:
+        """Return the notes of the operations that are kept aside."""
+        return [one.written()["note"] for one in here.lab.state.unreadable]
+
+    def alter(self, here: Here, change: Any) -> None:
+        """Change the entries of operations in a journal, as a journal that was damaged with a valid checksum."""
+        path = here.folder / "journal.jsonl"
+        lines = []
+        for entry in here.entries():
+            for kind, fields in entry.items():
+                if kind == "made":
+                    change(fields)
+            lines.append(journal_line(to_json(entry), True))
+        path.write_bytes(b"".join(lines))
+
+    async def test_a_journal_with_too_much_that_cannot_be_read_refuses_the_start(self) -> None:
+        """More than ten operations, or an entry of another kind. The refusal names the line."""
+        async with Here() as here:
+            await here.join("Ada")
+            for number in range(11):
+                await here.ask(1, "gesture", key=f"{number}", shape=["limit", 1, 1, number, None, 3])
+        entries = here.entries()
+        damaged = [number for number, entry in enumerate(entries) if "made" in entry]
+        self.alter(here, lambda one: one["operation"].update(who=5))
+        with self.assertRaisesRegex(CorruptJournal, f"line {damaged[-1] + 1}: .*more than 10 operations cannot be read"):
+            await self.enterAsyncContext(Here(here.folder))
+        self.alter(here, lambda one: one["operation"].update(who="Ada" if one["key"] == "0" else 5))
+        async with Here(here.folder) as again:
+            self.assertEqual(len(again.lab.state.unreadable), 10)
+        with open(here.folder / "journal.jsonl", "ab") as file:
+            file.write(journal_line(to_json({"take": {"seat": 64, "upto": 0}}), True))
+        with self.assertRaisesRegex(CorruptJournal, f"line {len(again.entries())}: malformed entry `take`"):
+            await self.enterAsyncContext(Here(here.folder))

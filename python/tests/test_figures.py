@@ -1,0 +1,214 @@
+"""Compute every figure of the table in a second way: by loops over the cars of each step, on random roads with two ramps."""
+from __future__ import annotations
+
+import random
+import statistics
+import unittest
+from typing import Callable
+
+from zegdrut import Car, Fault, Plan, RoadLab
+from zegdrut.figures import (Figure, Mean, Of, RoadRun, Value, choose, compare, list_figures, measure_day, read_run, simulate_days)
+from zegdrut.figures.trips import Window
+
+DETECTORS = [20, 60, 90]
+INLETS = [40, 0, 70]
+"""The cells of the inlets. The main road's is not the first one."""
+LAST = 400
+Edits = list[tuple[str, int, int, int]]
+
+
+class Watched:
+    """A run that was watched step by step: the cars of each row, and when each car entered, passed each detector and left."""
+
+    def __init__(self, lab: RoadLab, first: int, edits: Edits, demands: list[list[tuple[int, float]]]) -> None:
+        self.first, self.demands = first, demands
+        self.rows: list[list[Car]] = [lab.cars("A", step) for step in range(LAST + 1)]
+        self.speeds: list[list[tuple[int, int]]] = [[] for _ in DETECTORS]
+        self.arrivals: dict[tuple[int | None, int], int] = {}
+        self.on = [[self.is_on(edits, detector, step) for step in range(LAST)] for detector in range(len(DETECTORS))]
+        for step in range(LAST):
+            still = {car.number for car in self.rows[step + 1]}
+            for car in self.rows[step + 1]:
+                for detector, cell in enumerate(DETECTORS):
+                    if car.cell - car.speed < cell <= car.cell:
+                        self.arrivals[detector, car.number] = step
+                        self.speeds[detector] += [(step, car.speed)] if self.on[detector][step] else []
+            self.arrivals.update(((None, car.number), step) for car in self.rows[step] if car.number not in still)
+        self.numbers = {car.number for row in self.rows for car in row}
+
+    @staticmethod
+    def is_on(edits: Edits, detector: int, step: int) -> bool:
+        values = [value for kind, index, date, value in sorted(edits, key=lambda edit: edit[2])
+                  if kind == "watch" and index == detector and date <= step]
+        return not values or values[-1] == 1
+
+    def admitted(self, inlet: int, first: int, last: int) -> int:
+        return sum(number % 16 == inlet and first <= number // 16 < last for number in self.numbers)
+
+    def demand(self, inlet: int, first: int, last: int) -> float:
+        total = 0.0
+        for step in range(first, last):
+            total += [rate for date, rate in self.demands[inlet] if date <= step][-1] / 3_600
+        return total
+
+    def queues(self, inlet: int) -> list[float]:
+        waiting, found = 0.0, []
+        for step in range(LAST):
+            waiting += self.demand(inlet, step, step + 1) - (step * 16 + inlet in self.numbers)
+            found.append(waiting)
+        return found[self.first:]
+
+    def seconds(self, numbers: set[int]) -> int:
+        return sum(car.number in numbers for row in self.rows[self.first + 1:] for car in row)
+
+    def hours(self) -> float:
+        return sum(map(len, self.rows[self.first + 1:])) / 3_600
+
+    def seen(self, detector: int | None) -> list[int]:
+        assert detector is not None
+        return [speed for step, speed in self.speeds[detector] if step >= self.first]
+
+    def mean_time(self, of: Of) -> float | None:
+        times = [step - number // 16 for (place, number), step in self.arrivals.items()
+                 if place == of.detector and number % 16 == of.inlet and step >= self.first]
+        return statistics.mean(times) if times else None
+
+
+def find_delay(before: Watched, after: Watched) -> float:
+    both = before.numbers & after.numbers
+    return (after.seconds(both) - before.seconds(both)) / 3_600
+
+
+def find_delay_at(before: Watched, after: Watched, place: int | None) -> float | None:
+    later = [step - before.arrivals[place, number] for (at, number), step in after.arrivals.items()
+             if at == place and (place, number) in before.arrivals and number // 16 >= before.first]
+    return statistics.mean(later) if later else None
+
+
+def find_through(before: Watched, after: Watched) -> list[float]:
+    both = [number for at, number in before.arrivals if at is None and (None, number) in after.arrivals]
+    return [sum(run.arrivals[None, number] - number // 16 for number in both) / 3_600 for run in (before, after)]
+
+
+def total(ask: Callable[[int, int, int], float], first: int) -> float:
+    return sum(ask(inlet, first, LAST) for inlet in range(len(INLETS)))
+
+
+OF_ROAD: dict[str, Callable[[Watched, Of], float | None]] = {
+    "hours": lambda run, of: run.hours(),
+    "waiting": lambda run, of: sum(run.queues(of.inlet or 0)) / 3_600,
+    "together": lambda run, of: run.hours() + sum(run.queues(of.inlet or 0)) / 3_600,
+    "queue": lambda run, of: max(run.queues(of.inlet or 0)),
+    "left": lambda run, of: sum(place is None and step >= run.first for (place, _), step in run.arrivals.items()),
+    "entered": lambda run, of: len(run.numbers),
+    "demand": lambda run, of: total(run.demand, run.first),
+    "admitted": lambda run, of: total(run.admitted, run.first),
+    "lost": lambda run, of: total(run.demand, run.first) - total(run.admitted, run.first),
+    "lost at": lambda run, of: run.demand(of.inlet or 0, run.first, LAST) - run.admitted(of.inlet or 0, run.first, LAST),
+    "travel": lambda run, of: run.mean_time(of),
+    "cars": lambda run, of: len(run.seen(of.detector)),
+    "flow": lambda run, of: len(run.seen(of.detector)) * 3_600 / sum(run.on[of.detector or 0][run.first:]),
+    "speed": lambda run, of: statistics.mean(run.seen(of.detector)) * 27 if run.seen(of.detector) else None}
+"""By a figure's key: what it is on a road."""
+OF_CHANGE: dict[str, Callable[[Watched, Watched, Of], list[float | None]]] = {
+    "delay": lambda before, after, of: [None, None, find_delay(before, after)],
+    "delay at": lambda before, after, of: [None, None, find_delay_at(before, after, of.detector)],
+    "through": lambda before, after, of: [*find_through(before, after), find_through(before, after)[1] - find_through(before, after)[0]]}
+"""By a figure's key: what it is before a change and after it, and what the change costs."""
+
+
+def run_day(chance: random.Random, first: int) -> tuple[list[RoadRun], list[Watched], list[Figure]]:
+    """Run a random road before and after a closure, with a detector that is off for a while."""
+    plan = Plan(length=120, inlets=[(cell, chance.randrange(4_000, 24_000)) for cell in INLETS], zone=30,
+                zones=[(chance.randrange(2, 6), chance.randrange(16_000)) for _ in range(4)], detectors=DETECTORS, words=chance.randrange(1_000))
+    off = chance.randrange(60, 200)
+    edits: Edits = [("watch", chance.randrange(3), off, 0), ("watch", chance.randrange(3), off + 90, 1)]
+    closure: Edits = [("block", 100, first + 20, 1), ("block", 100, first + chance.randrange(40, 90), 0)]
+    demands = [[(0, chance.uniform(100, 600)), (chance.randrange(50, 300), chance.uniform(100, 900))] for _ in INLETS]
+    runs, watched = [], []
+    for all_edits in (edits, edits + closure):
+        with RoadLab(plan) as lab:
+            for kind, index, step, value in all_edits:
+                lab.edit("A", (kind, index), step, value)
+            lab.advance("A", LAST)
+            runs.append(read_run(lab, "A", Window(first, LAST), demands, period=70))
+            watched.append(Watched(lab, first, all_edits, demands))
+            figures = list_figures(lab.plan)
+    return runs, watched, figures
+
+
+class Table(unittest.TestCase):
+    def assertFigure(self, found: float | None, wanted: float | None, what: object) -> None:
+        self.assertEqual(found is None, wanted is None, what)
+        self.assertAlmostEqual(found or 0.0, wanted or 0.0, 9, str(what))
+
+    def test_each_figure_by_hand(self) -> None:
+        """Every figure has an oracle here, and equals it. Each oracle gives a number on some of the roads."""
+        chance, known = random.Random(3), set()
+        for case in range(4):
+            runs, watched, figures = run_day(chance, first=case % 2 * 80)
+            for figure, value in zip(figures, measure_day(figures, *runs)):
+                what = case, figure.title, figure.of
+                wanted = (OF_CHANGE[figure.key](watched[0], watched[1], figure.of) if figure.key in OF_CHANGE
+                          else [OF_ROAD[figure.key](run, figure.of) for run in watched])
+                for found, right in zip(value, wanted):
+                    self.assertFigure(found, right, what)
+                if figure.key in OF_ROAD and None not in wanted:
+                    self.assertFigure(value.difference, wanted[1] - wanted[0], what)
+                known |= {figure.key} if wanted[-1] is not None else set()
+                self.assertEqual([alone.after for alone in measure_day([figure], runs[1])], [value.after if figure.of_road else None], what)
+        self.assertEqual(known, OF_ROAD.keys() | OF_CHANGE.keys())
+
+    def test_names(self) -> None:
+        """A figure of an inlet or a detector names its place; no two figures of a road have the same name. The main road's inlet is the
+        one upstream of the others."""
+        plan = Plan(length=120, inlets=[(cell, 0) for cell in INLETS], zones=[(5, 0)], detectors=DETECTORS).to_line()
+        figures = list_figures(plan)
+        for figure in figures:
+            if figure.key == "travel":
+                self.assertIn(f"travel time from km {INLETS[figure.of.inlet or 0] * 0.0075:g}", figure.title)
+            if figure.of.detector is not None:
+                self.assertIn(f"km {DETECTORS[figure.of.detector] * 0.0075:g}", figure.title)
+            self.assertIn(figure.unit, figure.title)
+        self.assertEqual(len({(figure.key, figure.of) for figure in figures}), len(figures))
+        titles = [figure.title for figure in figures if figure.key != "together"]
+        self.assertEqual(len(set(titles)), len(titles))
+        self.assertEqual([(figure.of.inlet, figure.title) for figure in figures if figure.key == "lost at"],
+                         [(1, "lost main demand, cars"), (0, "lost demand of the ramp at km 0.3, cars"), (2, "lost demand of the ramp at km 0.525, cars")])
+        self.assertEqual({figure.of.inlet for figure in choose(figures, "hours", "lost at", "travel", inlet=2)}, {None, 2})
+
+    def test_rows_over_days(self) -> None:
+        """Means and intervals of three days by printed values of Student's t, paired and not; what a day does not know is unknown."""
+        figure = Figure("hours", "vehicle hours on the road", "vehicle hours", 2)
+        before, after = [3.0, 5.0, 4.0], [4.0, 5.0, 7.0]
+        days = [[Value(one, other, other - one)] for one, other in zip(before, after)]
+        row, = compare([figure], days)
+        for found, values in ((row.before, before), (row.after, after), (row.difference, [1.0, 0.0, 3.0])):
+            self.assertAlmostEqual(found.mean or 0, statistics.mean(values), 9)
+            self.assertAlmostEqual(found.half or 0, 4.302653 * statistics.stdev(values) / 3 ** 0.5, 5)
+        spread = (statistics.variance(before) + statistics.variance(after)) / 2
+        self.assertAlmostEqual(row.unpaired or 0, 2.776445 * (2 * spread / 3) ** 0.5, 5)
+        self.assertEqual((row.others, row.may_be_chance), (0, True))
+        row, = compare([figure], [*days, [Value(3.0, None, None)]])
+        self.assertEqual((row.before.mean, row.after, row.difference, row.unpaired), (3.75, Mean(), Mean(), None))
+        row, = compare([figure], days[:1])
+        self.assertEqual((row.before, row.after, row.difference, row.may_be_chance), (Mean(3.0), Mean(4.0), Mean(1.0), None))
+        row, = compare([figure], [[Value(1.0, one, one - 1.0)] for one in (2.0, 3.0, 0.5)])
+        self.assertEqual(row.others, 1)
+
+
+class Days(unittest.TestCase):
+    def test_results_in_the_order_of_the_seeds(self) -> None:
+        seen: list[tuple[int, int]] = []
+        self.assertEqual(simulate_days(lambda seed: seed * seed, range(5, 12), lambda *done: seen.append(done)), [one * one for one in range(5, 12)])
+        self.assertEqual(seen, [(done, 7) for done in range(1, 8)])
+
+    def test_a_fault_names_its_seed(self) -> None:
+        with self.assertRaisesRegex(Fault, "^seed 0: float division by zero$"):
+            simulate_days(lambda seed: 1.0 / seed, [3, 0, 2])
+        with self.assertRaisesRegex(Fault, "^seed 7: KeyError"):
+            simulate_days(lambda job: {}[job], [(7, "works")], name=lambda job: job[0])
+
+
+if __name__ == "__main__":
+    unittest.main()

@@ -1,0 +1,109 @@
+"""Simulate the days of roads in parallel, and keep of each run what figures need.
+
+    def make_run(seed):
+        with open_edited("works.jsonl", script.with_seed(seed)) as lab:
+            return read_run(lab, "A", Window(0, 3_600))
+
+    runs = simulate_days(make_run, seeds=range(1, 21))
+"""
+from __future__ import annotations
+
+from dataclasses import dataclass
+from typing import Callable, Sequence, TypeVar, cast
+
+from ..program.errors import Fault, LabError
+from ..program.lab import RoadLab
+from ..roads.demand import Rates
+from ..roads.units import HOUR
+from ..sweeps.pool import run_in_parallel
+from .trips import DetectorCount, Trips, Window, count_seconds_on
+
+Job = TypeVar("Job")
+R = TypeVar("R")
+
+
+@dataclass(frozen=True, eq=False)
+class RoadRun:
+    """A run of a road, as far as figures need it."""
+
+    trips: Trips
+    """Its cars. The sites are the detectors, for the figures of travel times to detectors."""
+    window: Window
+    """The steps of all figures."""
+    counts: list[list[DetectorCount]]
+    """What each detector counted in each period of the window."""
+    demands: Sequence[Rates] = ()
+    """The demand of each inlet in cars per hour, for the figures of demand."""
+    rows: Sequence[str] = ()
+    """The rows of the window, if they are kept."""
+    seconds: float = 1.0
+    """The length of a step."""
+
+    def hours(self, steps: int) -> float:
+        """Convert steps of cars to vehicle hours."""
+        return steps * self.seconds / HOUR
+
+    def count(self, detector: int) -> DetectorCount:
+        """Return what a detector counted in the whole window."""
+        return sum_counts(self.counts[detector])
+
+
+def sum_counts(counts: Sequence[DetectorCount]) -> DetectorCount:
+    """Return what detectors counted together."""
+    return DetectorCount(*(sum(one[place] for one in counts) for place in range(len(DetectorCount._fields))))
+
+
+def split_window(window: Window, period: int) -> list[Window]:
+    """Return the periods of a window. The last one may be shorter."""
+    return [Window(first, min(first + period, window.last)) for first in range(window.first, window.last, period)]
+
+
+def read_counts(lab: RoadLab, at: str, detectors: Sequence[int], periods: Sequence[Window]) -> list[list[DetectorCount]]:
+    """Return what detectors, by their indexes, counted in each period at the replica `at`."""
+    watched = [edit for edit in lab.scenario(at) if edit.object[0] == "watch"]
+    return [[DetectorCount(*lab.count(at, detector, *part), count_seconds_on(watched, detector, part), part.steps) for part in periods]
+            for detector in detectors]
+
+
+def read_run(lab: RoadLab, at: str, window: Window, demands: Sequence[Rates] = (), detectors: Sequence[int] | None = None,
+             period: int | None = None, with_passings: bool = True, with_rows: bool = False, seconds: float = 1.0) -> RoadRun:
+    """Read a run of the replica `at`, which it has simulated up to the window's end.
+
+    detectors: the indexes of the detectors that are counted; by default all of them.
+    period: the steps of each count; by default one count of the whole window.
+    with_passings: read when each car passes each detector, for travel times to detectors. Such a run takes twice as long.
+    """
+    cells: Sequence[int] = lab.plan["detectors"]
+    counted = range(len(cells)) if detectors is None else detectors
+    trips = Trips(lab.plan, [cells[detector] for detector in counted] if with_passings else [])
+    trips.follow(lab, at, window.last)
+    return RoadRun(trips, window, read_counts(lab, at, counted, split_window(window, period or max(window.steps, 1))), demands,
+                   lab.diagram(at, window.first, window.last - 1) if with_rows else (), seconds)
+
+
+def simulate_days(make_run: Callable[[Job], R], seeds: Sequence[Job], progress: Callable[[int, int], None] | None = None,
+                  name: Callable[[Job], object] = lambda seed: seed) -> list[R]:
+    """Return what `make_run` returns for each seed, in their order. The days run in parallel processes, one per processor.
+
+    progress: called after each day with the number of days done and of all days.
+    name: the seed of a job, for messages. (A job may be more than a seed, such as a seed and a road.)
+
+    Fault: a day failed. The message begins with its seed.
+    """
+    def attempt(seed: Job) -> R | Fault:
+        try:
+            return make_run(seed)
+        except (LabError, ValueError, ArithmeticError) as fault:
+            return Fault(str(fault))
+    found: dict[int, R] = {}
+    running = run_in_parallel(attempt, seeds)
+    try:
+        for done in running:
+            if done.error is not None or isinstance(done.value, Fault):
+                raise Fault(f"seed {name(seeds[done.job])}: {done.error or done.value}")
+            found[done.job] = cast(R, done.value)
+            if progress:
+                progress(len(found), len(seeds))
+    finally:
+        running.close()
+    return [found[job] for job in range(len(seeds))]

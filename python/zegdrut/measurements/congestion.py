@@ -1,0 +1,303 @@
+"""Judge whether a simulation is congested when and where the measured traffic is.
+
+    segments = list_segments(model)
+    days = simulate_segments(model, segments, days=5)
+    found = judge(model.measured, days)
+    print(found.count(), describe_jams(found, model.measured), compare_time_lost(segments, days))
+
+The free speed of a station is the speed that 85 % of its measured intervals do not exceed. A station interval is congested if its speed
+is below a share of that speed, by default 0.6: with a free speed of 97 km/h (60 mph) this is 58 km/h, close to the 35 mph below which
+Caltrans' Highway Congestion Monitoring Program counts a freeway as congested. As there, a jam lasts at least 15 minutes.
+
+The measured speed is the station's time-mean speed. The simulated one is the space-mean speed within 0.15 km of the station, averaged
+over the days: in the model only moving cars pass a detector, at 27 km/h or more, and most have left the jam, so that its time-mean
+speed in a jam is often twice a real one. In the simulation an interval is congested if it is on at least half of the days with a car.
+
+Delay and travel time cover the stretch from the first to the last station with speeds. Each station stands for its segment, which ends
+halfway to the next station. The measured delay of an interval is cars x length x (1 / speed - 1 / free speed), the simulated one is
+summed over the cars on the segment in each step; both are summed over congested intervals only, and only where both a count and a speed
+were measured. A travel time is the sum over the segments of length / speed: of the station's speed if measured, of the segment's
+space-mean speed if simulated.
+"""
+from __future__ import annotations
+
+import math
+from dataclasses import dataclass
+from typing import Callable, NamedTuple, Sequence
+
+from ..figures.intervals import average_known
+from ..figures.simulation import simulate_days
+from ..program.rows import Sums, add_up
+from ..roads.clock import Clock
+from ..roads.units import CELLS_A_KM, HOUR, KMH, count_things
+from .comparison import Day, Model, estimate_days, simulate_day
+from .measured import Measured, Series
+
+CONGESTED = 0.6
+"""Traffic is congested below this share of the free speed."""
+FREE_SHARE = 0.85
+"""The share of the measured intervals whose speed the free speed reaches or exceeds."""
+SHORTEST_JAM = 900
+"""The seconds that a jam lasts at least."""
+MOST, LEAST = 2 / 3, 1 / 3
+"""A jam is reproduced if at least MOST of its station intervals are congested in the simulation, and missed if fewer than LEAST are."""
+SLOWEST = 1.0
+"""Lower speeds in km/h count as this one."""
+NEAR = 20
+"""The cells before and after a station whose cars are near it."""
+
+States = list[list["bool | None"]]
+"""Whether each station is congested in each interval. None: no speed is known."""
+
+
+class JudgedDay(NamedTuple):
+    """A simulated day: what passed the compared stations, and for each interval the sums over the cars near each of them and over the cars
+    on each segment."""
+
+    passed: Day
+    near: list[list[Sums]]
+    on: list[list[Sums]]
+
+
+class Intervals(NamedTuple):
+    """The numbers of station intervals that are congested in both, only measured, only simulated, and in neither."""
+
+    both: int
+    only_measured: int
+    only_simulated: int
+    neither: int
+
+
+class SpeedOff(NamedTuple):
+    """The number of station intervals, the RMSE of their speeds in km/h, and the mean of simulated minus measured speed in km/h."""
+
+    intervals: int
+    rmse: float | None
+    bias: float | None
+
+
+class Jam(NamedTuple):
+    """A jam: the indexes of its first and last station, its first interval and the one after its last, and its station intervals."""
+
+    first: int
+    last: int
+    begin: int
+    end: int
+    places: list[tuple[int, int]]
+
+
+@dataclass(frozen=True)
+class Judgement:
+    """The states of the compared stations, measured and simulated, and the speed errors in measured congestion and in free traffic."""
+
+    measured: States
+    simulated: States
+    congested: SpeedOff
+    free: SpeedOff
+    interval: int
+    """Seconds."""
+
+    def count(self) -> Intervals:
+        """Return how many station intervals with both speeds are congested."""
+        pairs = [pair for known, drawn in zip(self.measured, self.simulated) for pair in zip(known, drawn) if None not in pair]
+        return Intervals(*(pairs.count(pair) for pair in ((True, True), (True, False), (False, True), (False, False))))
+
+
+def find_free_speed(series: Series) -> float | None:
+    """Return the free speed of a station in km/h, or None if it has no speeds."""
+    speeds = sorted(speed for speed in series.speeds if speed is not None)
+    return speeds[math.ceil(FREE_SHARE * len(speeds)) - 1] if speeds else None
+
+
+def judge(measured: Measured, days: Sequence[JudgedDay], share: float = CONGESTED) -> Judgement:
+    """Find the congested intervals of the compared stations, and compare the speeds in them and in the other intervals."""
+    known, drawn = States(), States()
+    off: dict[bool, list[float]] = {True: [], False: []}
+    for index, series in enumerate(measured.main[1:]):
+        bound = share * (find_free_speed(series) or 0.0)
+        known.append([None if speed is None else speed < bound for speed in series.speeds])
+        drawn.append([is_simulated_congested(days, index, place, bound) if bound else None for place in range(measured.intervals)])
+        for place, speed in enumerate(series.speeds):
+            mean = average_known([space_mean(day.near[index][place]) for day in days])
+            if speed is not None and mean is not None:
+                off[speed < bound].append(mean - speed)
+    return Judgement(known, drawn, summarize(off[True]), summarize(off[False]), measured.interval)
+
+
+def is_simulated_congested(days: Sequence[JudgedDay], index: int, place: int, bound: float) -> bool | None:
+    """Return whether at least half of the days with a car near a station have a speed below a bound in km/h, or None without a car."""
+    slow = [speed < bound for day in days if (speed := space_mean(day.near[index][place])) is not None]
+    return 2 * sum(slow) >= len(slow) if slow else None
+
+
+def space_mean(sums: Sums) -> float | None:
+    """Return the space-mean speed in km/h, or None without a car."""
+    return sums.speeds / sums.cars * KMH if sums.cars else None
+
+
+def summarize(off: Sequence[float]) -> SpeedOff:
+    """Return the number, the root mean square and the mean of speed differences."""
+    if not off:
+        return SpeedOff(0, None, None)
+    return SpeedOff(len(off), math.sqrt(math.fsum(one * one for one in off) / len(off)), math.fsum(off) / len(off))
+
+
+# Jams
+
+def find_runs(states: Sequence[bool | None], least: int) -> list[tuple[int, int]]:
+    """Return the first interval of each run of at least `least` congested intervals, and the one after its last."""
+    found, begin = list[tuple[int, int]](), None
+    for place, state in enumerate([*states, False]):
+        if state and begin is None:
+            begin = place
+        elif not state and begin is not None:
+            found += [(begin, place)] if place - begin >= least else []
+            begin = None
+    return found
+
+
+def find_jams(states: States, interval: int) -> list[Jam]:
+    """Return the jams. Runs of congested intervals at neighbouring stations belong to one jam if they overlap in time."""
+    least = math.ceil(SHORTEST_JAM / interval)
+    jams: list[list[tuple[int, int, int]]] = []
+    for index, line in enumerate(states):
+        for begin, end in find_runs(line, least):
+            near = [jam for jam in jams if any(index - other == 1 and begin < until and since < end for other, since, until in jam)]
+            jams = [jam for jam in jams if jam not in near] + [[run for jam in near for run in jam] + [(index, begin, end)]]
+    return sorted((make_jam(jam) for jam in jams), key=lambda jam: (jam.begin, jam.first))
+
+
+def make_jam(runs: Sequence[tuple[int, int, int]]) -> Jam:
+    """Make a jam of runs, each with its station, its first interval and the one after its last."""
+    stations, begins, ends = zip(*runs)
+    return Jam(min(stations), max(stations), min(begins), max(ends),
+               [(index, place) for index, begin, end in runs for place in range(begin, end)])
+
+
+def describe_jams(found: Judgement, measured: Measured) -> list[str]:
+    """Return a sentence for each measured jam, whether the simulation reproduces it, and for each simulated jam that was not measured."""
+    clock, names = measured.clock, [one.station.name for one in measured.main[1:]]
+    if not any(state is not None for line in found.measured for state in line):
+        return ["the counts have no speeds, so nothing says whether congestion is reproduced"]
+    sentences = [describe_jam(jam, found.simulated, clock, names, found.interval) for jam in find_jams(found.measured, found.interval)]
+    for jam in find_jams(found.simulated, found.interval):
+        known = [state for index, place in jam.places if (state := found.measured[index][place]) is not None]
+        if known and sum(known) < LEAST * len(known):
+            sentences.append(f"{name_jam('the simulation has a jam from', jam, clock, names, found.interval)} that was not measured")
+    return sentences or [f"no jam was measured, and none is simulated: no station is congested for {SHORTEST_JAM // 60} minutes, so these counts "
+                         "do not say whether the road jams as it should"]
+
+
+def describe_jam(jam: Jam, simulated: States, clock: Clock, names: Sequence[str], interval: int) -> str:
+    """Return a sentence that says whether the simulation reproduces a measured jam."""
+    known = [state for index, place in jam.places if (state := simulated[index][place]) is not None]
+    share = sum(known) / len(known) if known else 0.0
+    verdict = "is reproduced" if share >= MOST else "is missed" if share < LEAST else "is reproduced in part"
+    return (f"{name_jam('the jam from', jam, clock, names, interval)} {verdict}: {sum(known)} of its {count_things(len(known), 'station interval')} "
+            f"{'is' if sum(known) == 1 else 'are'} congested in the simulation")
+
+
+def name_jam(head: str, jam: Jam, clock: Clock, names: Sequence[str], interval: int) -> str:
+    """Name a jam by its times and stations."""
+    *others, last = names[jam.first:jam.last + 1]
+    stations = f"stations {', '.join(others)} and {last}" if others else f"station {last}"
+    return f"{head} {clock.to_text(jam.begin * interval)} to {clock.to_text(jam.end * interval)} at {stations}"
+
+
+# Delay and travel time
+
+class Segment(NamedTuple):
+    """The cells `first` to `last - 1`, for which a main-line station stands, and the free speed of the station in km/h."""
+
+    series: Series
+    first: int
+    last: int
+    free: float
+
+    @property
+    def km(self) -> float:
+        """Return the length in km."""
+        return (self.last - self.first) / CELLS_A_KM
+
+
+class Both(NamedTuple):
+    """A measured value, the mean of the simulated days, and half its 95 % interval (None for one day)."""
+
+    measured: float
+    simulated: float
+    half: float | None
+
+
+class Lost(NamedTuple):
+    """The delay in congested intervals in vehicle hours per lane, and the mean and the longest travel time of the intervals in seconds.
+
+    The travel times are None if no interval has the speeds of all stations."""
+
+    delay: Both
+    mean_time: Both | None
+    longest_time: Both | None
+
+
+def list_segments(model: Model) -> list[Segment]:
+    """Return the segments of the stations with speeds. There are none if fewer than two stations have speeds."""
+    known = [(one, free, min(max(round(one.station.km * CELLS_A_KM), 0), model.road.length))
+             for one in model.measured.main if (free := find_free_speed(one)) is not None]
+    cells = [cell for _, _, cell in known]
+    if len(known) < 2:
+        return []
+    ends = [cells[0], *((before + after) // 2 for before, after in zip(cells, cells[1:])), cells[-1]]
+    return [Segment(one, first, last, free) for (one, free, _), first, last in zip(known, ends, ends[1:])]
+
+
+def simulate_segments(model: Model, segments: Sequence[Segment], days: int,
+                      progress: Callable[[int, int], None] | None = None) -> list[JudgedDay]:
+    """Simulate days in parallel: the seed of the road, and the ones after it."""
+    return simulate_days(lambda seed: simulate_segment_day(model, segments, seed), range(model.seed, model.seed + days), progress)
+
+
+def simulate_segment_day(model: Model, segments: Sequence[Segment], seed: int) -> JudgedDay:
+    """Simulate one day."""
+    day, rows, _ = simulate_day(model, seed, with_rows=True)
+    interval = model.measured.interval
+
+    def add_intervals(first: int, last: int) -> list[Sums]:
+        return [add_up(rows[begin:begin + interval], first, last) for begin in range(0, model.window_steps, interval)]
+
+    cells = model.road.detectors[:len(model.detectors)]
+    return JudgedDay(day, [add_intervals(max(cell - NEAR, 0), cell + NEAR) for cell in cells],
+                     [add_intervals(one.first, one.last) for one in segments])
+
+
+def compare_time_lost(segments: Sequence[Segment], days: Sequence[JudgedDay], share: float = CONGESTED) -> Lost | None:
+    """Compare delay and travel times of the stretch, or return None without segments."""
+    if not segments:
+        return None
+    places = range(len(segments[0].series.cars))
+    delays = [math.fsum(delay_of_day(one, day.on[index], share) for index, one in enumerate(segments)) for day in days]
+    delay = Both(math.fsum(measured_delay(one, share) for one in segments), *estimate_days(delays))
+    whole = [place for place in places if all(one.series.speeds[place] is not None for one in segments)]
+    if not whole:
+        return Lost(delay, None, None)
+    known = [math.fsum(one.km * HOUR / max(one.series.speeds[place] or 0.0, SLOWEST) for one in segments) for place in whole]
+    drawn = [[math.fsum(one.km * HOUR / max(space_mean(day.on[index][place]) or one.free, SLOWEST) for index, one in enumerate(segments))
+              for place in whole] for day in days]
+    return Lost(delay, Both(math.fsum(known) / len(known), *estimate_days([math.fsum(times) / len(times) for times in drawn])),
+                Both(max(known), *estimate_days([max(times) for times in drawn])))
+
+
+def is_counted(segment: Segment, place: int) -> bool:
+    """Return whether a station has both a count and a speed in an interval."""
+    return segment.series.cars[place] is not None and segment.series.speeds[place] is not None
+
+
+def measured_delay(segment: Segment, share: float) -> float:
+    """Return the measured delay of a segment in vehicle hours, in its congested intervals."""
+    pairs = zip(segment.series.cars, segment.series.speeds)
+    return math.fsum(cars * segment.km * (1 / max(speed, SLOWEST) - 1 / segment.free) for cars, speed in pairs
+                     if cars is not None and speed is not None and speed < share * segment.free)
+
+
+def delay_of_day(segment: Segment, sums: Sequence[Sums], share: float) -> float:
+    """Return the delay of a simulated day on a segment in vehicle hours, in its congested intervals."""
+    return math.fsum(one.cars - one.speeds * KMH / segment.free for place, one in enumerate(sums)
+                     if is_counted(segment, place) and (space_mean(one) or 0.0) < share * segment.free) / HOUR
