@@ -5,11 +5,12 @@ import asyncio
 import json
 import os
 import re
+import subprocess
 import sys
 import unittest
 from typing import Any
 
-from running import LIVE, PATIENCE, SMALL, Broker, Case, Server, new_folder
+from running import LIVE, PATIENCE, SMALL, Broker, Case, Server, end, new_folder, started
 from server.figures.curves import Curve
 from server.journal.records import read_plan_line
 from server.tabs.words import InvalidWords, find_chance, find_state, read_change
@@ -102,6 +103,37 @@ class Shell(Case):
         await self.road("cron", "share")
         status, _, why = await self.road("cron", "tell", PATIENCE="1")
         self.assertEqual((status, why.strip()), (1, "1 change has not come back from the broker, which is away"))
+
+    async def test_a_robot_gets_its_seat_back_from_somebody_who_took_it_over(self) -> None:
+        """While that person has it open, the robot gets a sentence of its own."""
+        self.assertEqual((await self.road("cron", "seats"))[1], "seat 1: cron, here")
+        async with self.a6.seat(take=1):
+            status, said, why = await self.road("cron", "seats")
+            self.assertEqual((status, said), (1, ""))
+            self.assertEqual(why.strip(), "cron: somebody has taken over this seat and has it open: close that tab, or use another NAME")
+        self.assertEqual((await self.road("cron", "seats"))[:2], (0, "seat 1: cron, here"))
+        self.assertEqual((await self.road("cron", "seats"))[:2], (0, "seat 1: cron, here"))
+
+    async def test_only_the_owner_may_read_a_folder_and_its_keys_whatever_the_umask(self) -> None:
+        plan = self.a6.folder / "plan.json"
+        for umask in (0, 0o177):
+            folder = new_folder() / "above" / "folder"
+            before = os.umask(umask)
+            try:
+                server = started([sys.executable, str(LIVE / "serve"), "--folder", str(folder), "--port", "0", str(plan)],
+                                 stdout=subprocess.PIPE, text=True)
+                self.addCleanup(end, server)
+                assert server.stdout is not None
+                address = (await asyncio.to_thread(server.stdout.readline)).strip()
+                said = await self.road("cron", "seats", LIVE=str(folder / "robots"), LIVE_ADDRESS=address)
+            finally:
+                os.umask(before)
+            self.assertEqual(said[:2], (0, "seat 1: cron, here"))
+            paths = (folder.parent, folder, folder / "robots", folder / "robots" / "keys", folder / "robots" / "keys" / "cron")
+            self.assertEqual([path.stat().st_mode & 0o777 for path in paths], [0o700] * 4 + [0o600])
+            paths[-1].chmod(0o644)  # as a copy of the folder may have it
+            await self.road("cron", "seats", LIVE=str(folder / "robots"), LIVE_ADDRESS=address)
+            self.assertEqual(paths[-1].stat().st_mode & 0o777, 0o600)
 
     async def test_changes_are_written_in_km_and_clock_times(self) -> None:
         """A demand agrees with the package's curve, within half a car per hour."""

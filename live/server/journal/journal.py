@@ -104,6 +104,14 @@ def sync_folder(folder: Path) -> None:
         os.close(handle)
 
 
+def make_folder(path: Path) -> None:
+    """Make a folder that only its owner may use, and the folders above it. It is there after a power failure, too."""
+    for one in reversed([one for one in (path, *path.parents) if not one.exists()]):
+        one.mkdir(exist_ok=True)
+        one.chmod(0o700)
+        sync_folder(one.parent)
+
+
 def open_for_append(path: Path) -> int:
     """Open a file to append to it. Only its owner may read and write it."""
     return os.open(path, os.O_WRONLY | os.O_CREAT | os.O_APPEND, 0o600)
