@@ -295,7 +295,7 @@ async function askLayers(whose) {
 /** Refresh the lists, if the page has joined. */
 export function refreshLists() {
   if (!store.me || !store.layers.mine) return;
-  store.changes = listChanges(layersOf("mine"), store.me.number);
+  store.changes = listChanges(layersOf("mine"), store.me.seat);
   notify("changes");
 }
 

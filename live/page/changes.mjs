@@ -11,7 +11,7 @@ import {need, layersOf, layersShown, store} from "./store.mjs";
 /** @typedef {import("./types.mjs").Shape} Shape */
 
 /** Return words for the changes of the own road, or of another road. */
-export const words = (layers = layersOf("mine")) => new Words(layers, need("me").number);
+export const words = (layers = layersOf("mine")) => new Words(layers, need("me").seat);
 
 /** Return words for the changes of the road that is shown. */
 export const wordsShown = () => words(layersShown());

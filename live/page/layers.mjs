@@ -173,10 +173,10 @@ export const privateOf = ({operations}) => operations.filter(({shared, idle}) =>
 /** Return a seat's last operation on a change, and the one that was made at the same time and won
  * over it; null if none won over it.
  * @param {Pick<Change, "operations">} change
- * @param {number} number    the seat's, in stamps
+ * @param {number} seat
  */
-export function lostOf({operations}, number) {
-  const mine = operations.findLast(({stamp}) => stamp.number === number);
+export function lostOf({operations}, seat) {
+  const mine = operations.findLast((one) => one.seat === seat);
   const lost = mine?.lost;
   if (!mine || !lost) return null;
   const theirs = operations.find(({stamp}) => keyOf(stamp) === keyOf(lost));

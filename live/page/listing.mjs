@@ -42,22 +42,22 @@ function goneText(change) {
 export class Words {
   /**
    * @param {Layers} layers
-   * @param {number | null} number    the seat's, in stamps; null: no seat reads them
+   * @param {number | null} seat    null: no seat reads them
    */
-  constructor(layers, number) {
+  constructor(layers, seat) {
     this.layers = layers;
-    this.number = number;
+    this.seat = seat;
   }
 
   /** Ask whether the seat made a change.
-   * @param {Pick<Change, "name">} change
+   * @param {Pick<Change, "seat">} change
    */
-  isOwn({name}) {
-    return name.number === this.number;
+  isOwn({seat}) {
+    return seat === this.seat;
   }
 
   /** Return who made a change, as text.
-   * @param {Pick<Change, "name" | "who">} change
+   * @param {Pick<Change, "seat" | "who">} change
    */
   name(change) {
     return this.isOwn(change) ? "you" : change.who || "somebody";
@@ -85,8 +85,8 @@ export class Words {
    * @param {Change} change
    */
   by(change) {
-    const {stamp, who} = lastOf(change);
-    return stamp.number === this.number ? "you" : who || "somebody";
+    const {seat, who} = lastOf(change);
+    return seat === this.seat ? "you" : who || "somebody";
   }
 
   /** Return who made a change, when its last operation was made, and who made that one if it was
@@ -94,9 +94,9 @@ export class Words {
    * @param {Change} change
    */
   meta(change) {
-    const {stamp, does, when} = lastOf(change);
-    const isOwn = stamp.number === change.name.number;
-    const done = isOwn || !does ? "" : `; ${DONE[does] ?? does} by ${this.by(change)}`;
+    const {seat, who, does, when} = lastOf(change);
+    const isSame = seat === change.seat && who === change.who;
+    const done = isSame || !does ? "" : `; ${DONE[does] ?? does} by ${this.by(change)}`;
     return [this.name(change) + done, this.layers.day.dateText(when)].filter(Boolean).join(", ");
   }
 
@@ -165,10 +165,10 @@ export class Words {
    * @param {Change} change
    */
   lost(change) {
-    const found = this.number === null ? null : lostOf(change, this.number);
+    const found = this.seat === null ? null : lostOf(change, this.seat);
     if (!found) return "";
-    const {stamp, who, does} = found.theirs;
-    const name = stamp.number === this.number ? "You" : who || "Somebody";
+    const {seat, who, does} = found.theirs;
+    const name = seat === this.seat ? "You" : who || "Somebody";
     return `${name} ${DID[does] ?? "changed it"} at the same time, and that takes precedence.`;
   }
 
@@ -184,7 +184,7 @@ export class Words {
     const won = last?.lost;
     if (!last || !won) return null;
     const winner = change.operations.find(({stamp}) => keyOf(stamp) === keyOf(won));
-    const name = won.number === this.number ? "you" : winner?.who || "somebody";
+    const name = winner?.seat === this.seat ? "you" : winner?.who || "somebody";
     const text = last.shape ? shapeText(this.layers, last.shape) : last.note || DONE[last.does];
     return [text, `${last.who || "somebody"}: no effect, ${name} `
       + `${DID[winner?.does ?? "change"]} at the same time, and that takes precedence`];
@@ -214,13 +214,13 @@ export class Words {
  * not if it consists of raw edits that a shape has replaced.
  * @param {Change} change
  * @param {Layers} layers
- * @param {number} number
+ * @param {number} seat
  */
-function isListed(change, layers, number) {
+function isListed(change, layers, seat) {
   if (change.planned) return false;
   if (change.standing) return true;
   if (layers.find(lastOf(change).stamp)?.standing) return false;
-  return privateOf(change).length > 0 || lostOf(change, number) !== null;
+  return privateOf(change).length > 0 || lostOf(change, seat) !== null;
 }
 
 /** Return changes in the order of the lists: the newest first, which people look for most.
@@ -231,12 +231,12 @@ export const newestFirst = (changes) => [...changes].sort((one, other) =>
 
 /** Return the changes of the lists, each with its texts.
  * @param {Layers} layers
- * @param {number} number
+ * @param {number} seat
  * @returns {Listed[]}
  */
-export function listChanges(layers, number) {
-  const words = new Words(layers, number);
-  const listed = [...layers.changes.values()].filter((change) => isListed(change, layers, number));
+export function listChanges(layers, seat) {
+  const words = new Words(layers, seat);
+  const listed = [...layers.changes.values()].filter((change) => isListed(change, layers, seat));
   return newestFirst(listed).map((change) => ({
     change, state: words.state(change), cover: words.cover(change), lost: words.lost(change),
     text: words.text(change), meta: words.meta(change),
@@ -266,14 +266,14 @@ export function demandsOfFile(layers) {
 
 /** Return all operations, newest first: who did what and when, and what covers it now.
  * @param {Layers} layers
- * @param {number} number
+ * @param {number} seat
  */
-export function historyOf(layers, number) {
-  const words = new Words(layers, number);
+export function historyOf(layers, seat) {
+  const words = new Words(layers, seat);
   const changes = [...layers.changes.values()].filter(({planned}) => !planned);
   return changes.flatMap((change) => change.operations.map((done) => {
     const {stamp, who, note, does, when, shared} = done;
-    const name = stamp.number === number ? "you" : who || "somebody";
+    const name = done.seat === seat ? "you" : who || "somebody";
     const meta = [name, DONE[does] ?? does, layers.day.dateText(when), shared ? "" : "private"]
       .filter(Boolean).join(", ");
     return {stamp, text: note || change.note, meta,

@@ -24,7 +24,7 @@ const MOST_PAST = 100;          // operations that the page lists
  * @param {Listed} listed
  */
 function changeButtons({change, text}) {
-  const lost = lostOf(change, need("me").number);
+  const lost = lostOf(change, need("me").seat);
   /** @type {[offered: boolean, name: string, does: () => void][]} */
   const buttons = [
     [true, "Show", () => showChange(change)],
@@ -108,7 +108,7 @@ const pastItem = ({stamp, text, meta, cover}) => ({key: keyOf(stamp),
 function showHistory() {
   $("past").hidden = !store.changes.length && !store.layers.mine?.changes.size;
   if (!store.isOpen.past || !store.me) return;
-  const all = historyOf(layersOf("mine"), store.me.number);
+  const all = historyOf(layersOf("mine"), store.me.seat);
   showList($("history"), all.slice(0, MOST_PAST).map(pastItem));
   const rest = all.length - MOST_PAST;
   $("pastRest").textContent = rest > 0 ? `And ${plural(rest, "earlier one")}: \u201cChanges as CSV\u201d in the Save menu has all.` : "";

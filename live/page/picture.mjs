@@ -30,7 +30,7 @@ import {byMeans, everyShown, partShown, viewNow} from "./view.mjs";
 /** @typedef {CanvasRenderingContext2D} Context */
 /**
  * A frame that is drawn: where a change is in force, or a shape that is not confirmed yet.
- * @typedef {Omit<Frame, "by"> & {by: Pick<Change, "name" | "who">, pending?: boolean}} Drawn
+ * @typedef {Omit<Frame, "by"> & {by: Pick<Change, "name" | "seat" | "who">, pending?: boolean}} Drawn
  */
 
 const FASTEST = FASTEST_COLOUR;        // cells a step of the last colour, 135 km/h
@@ -163,9 +163,9 @@ export function write(context, text, left, top, align = "left", colour = "#00000
  * @returns {Drawn[]}
  */
 export function framesShown() {
-  const {number, name} = need("me");
+  const {seat, name} = need("me");
   /** @type {Drawn["by"]} */
-  const own = {name: {count: 0, number}, who: name};
+  const own = {name: {count: 0, number: 0}, seat, who: name};
   const shapes = whoseShown()[0] === "mine" ? waitingShapes() : [];
   const waiting = shapes.map((shape) => ({...shape, by: own, pending: true}));
   return [...layersShown().frames.filter(({by}) => !by.planned), ...waiting];
@@ -204,7 +204,7 @@ function fillClosures(context, view, frames) {
 /** Ask whether frames are of several people.
  * @param {Drawn[]} frames
  */
-export const areOfSeveral = (frames) => new Set(frames.map(({by}) => by.name.number)).size > 1;
+export const areOfSeveral = (frames) => new Set(frames.map(({by}) => by.seat ?? by.who)).size > 1;
 
 /** Return what is written at a frame.
  * @param {Drawn} frame

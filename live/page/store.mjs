@@ -67,7 +67,7 @@ import {HOUR} from "./units.mjs";
  * @property {{site: number, when: number}[]} sites     other sites, and when each was heard last
  * @property {string[]} siteFaults     what is wrong with sites
  * @property {string} programNote      a note that the program is not proved; "": it is
- * @property {string} closedNote       the note that this tab has closed
+ * @property {string} closedNote       the note that this browser has closed
  * @property {string} trouble          what is wrong with the disk
  * @property {{why: string, timer: Timer | undefined}} replaced     why the program was replaced; ""
  *   after a while
@@ -276,9 +276,9 @@ export const now = () => store.clock.now;
 export const last = () => Math.max(store.clock.now, store.ahead);
 
 /** Ask whether this tab's seat made a change.
- * @param {Pick<Change, "name">} change
+ * @param {Pick<Change, "seat">} change
  */
-export const isOwn = ({name}) => name.number === need("me").number;
+export const isOwn = ({seat}) => seat === need("me").seat;
 
 /** Return the road that is shown, or two: then their difference is drawn, the first minus the second.
  * @returns {RoadName[]}

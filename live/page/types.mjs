@@ -60,6 +60,7 @@
  * @property {Stamp | null} lost      the operation that was made at the same time and won
  * @property {Shape | null} [shape]   what a lost operation would have set
  * @property {boolean} [idle]         it need not be shared, since it changes nothing
+ * @property {number} [seat]          of this server that made it, if one did
  */
 
 /**
@@ -88,6 +89,7 @@
  * @property {number | null} site     the site that it excludes
  * @property {Rectangle[] | null} [was]
  * @property {boolean} [planned]      it is the demand of the road's file
+ * @property {number} [seat]          of this server that made it, if one did
  */
 
 /**

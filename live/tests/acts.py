@@ -9,7 +9,7 @@ from typing import Any
 
 from server.tabs.client import RefusedReply, Seat
 from server.model.operations import Stamp
-from running import SMALL, Case, descendants, until
+from running import SMALL, PATIENCE, Case, descendants, until
 
 LIMIT = ["limit", 2, 50]
 CLOSED = ["block", 60, 69, 30, 60, 1]
@@ -102,6 +102,18 @@ class Acts(Case):
             return [*descendants(self.a6.process.pid)] == [self.a6.program]
         await until(is_alone, "the program of the roads alone")
         self.assertNotIn("` failed", self.a6.said())  # no question failed (asyncio may log a broken pipe)
+
+    async def test_four_previews_keep_a_program_after_many_asked_at_once(self) -> None:
+        seats = [self.ada, self.ben, *[await self.enterAsyncContext(self.a6.seat(f"n{number}")) for number in range(8)]]
+        for seat in seats:
+            await put_layer(seat, "1", CLOSED)
+            await seat.ask("preview", what="share")
+        for _ in range(2):
+            await asyncio.gather(*(seat.ask("advance", at="after", to=50) for seat in seats))
+
+            async def are_four() -> bool:
+                return len([*descendants(self.a6.process.pid)]) == 1 + 4
+            await until(are_four, "the program of the roads, and those of four previews", PATIENCE / 10)
 
     async def test_shown_lists_which_layer_covers_which_and_when(self) -> None:
         old = await put_layer(self.ada, "old", ["limit", 2, 2, 20, 80, 1], note="long")

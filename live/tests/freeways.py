@@ -63,7 +63,8 @@ class Freeways(Case):
         self.assertNotIn("another plan", server.said())
         async with server.seat("Cleo") as cleo:
             shared = (await cleo.ask("operations", at="shared"))["operations"]
-            self.assertNotIn(cleo.welcome["number"], [one["stamp"][1] for one in shared])  # otherwise they would count as hers
+            self.assertTrue(shared)
+            self.assertIsNone((await cleo.ask("layers"))["undo"])  # otherwise they would count as hers
         server.stop()
         (server.folder / "plan.json").write_text(json.dumps({**KM, "main": 800}), encoding="utf-8")
         server.start()

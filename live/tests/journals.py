@@ -21,7 +21,7 @@ from unittest import mock
 import running
 from faulty import Disk, Here, soon
 from server.tabs.client import Seat
-from server.journal.journal import CannotStart, Entries, Journal, NotWritten, lock, put_in_place, read_entries
+from server.journal.journal import CannotStart, Entries, Journal, NotWritten, lock, make_folder, put_in_place, read_entries
 from server.journal.keeper import Keeper
 from server.background.settings import Settings
 from crashes import numbers
@@ -305,6 +305,16 @@ class Writing(unittest.IsolatedAsyncioTestCase):
                 self.assertEqual(self.path.read_bytes(), b"new" if number > 4 else b"old", number)
                 self.assertEqual([one.name for one in self.path.parent.iterdir()], [self.path.name])
             self.assertEqual(disk.calls, ["write", "write", "fsync", "rename"])
+
+
+    async def test_a_new_folder_is_in_the_folder_above_it_after_a_power_failure(self) -> None:
+        top, synced = self.path.parent, list[str]()
+        with Disk() as disk:
+            disk.before = lambda name, given: synced.append(f"{name} {os.readlink(f'/proc/self/fd/{given[0]}')}")
+            make_folder(top / "a" / "b")
+            make_folder(top / "a" / "b")
+        self.assertEqual(synced, [f"fsync {top}", f"fsync {top / 'a'}"])
+        self.assertTrue((top / "a" / "b").is_dir())
 
 
 def seen(state: State) -> Any:

@@ -12,7 +12,7 @@ import {Words, affectedBy, historyOf, listChanges} from "../page/listing.mjs";
 import {store} from "../page/store.mjs";
 
 const PLAN = JSON.parse(readFileSync(new URL("../plan.json", import.meta.url), "utf8"));
-const [ADA, BEN] = [65, 66];
+const [ADA, BEN] = [65, 66];  // seats, which are also the second parts of the stamps here
 
 /** Return a line with one put, which is shared unless `more` says otherwise; `parts` are [from, to, by]. */
 function line(name, who, shape, parts, more = {}) {
@@ -30,9 +30,13 @@ const ben = (parts, more) => line([2, BEN], "Ben", BS, parts, more);
 
 const nameOf = (count, number) => ({count, number});
 
+/** Return a line that says which seats made it and its operations. */
+const withSeats = (one) => ({...one, seat: one.name[1],
+  operations: one.operations.map((done) => ({...done, seat: done.stamp[1]}))});
+
 function road(...lines) {
   const layers = new Layers(PLAN);
-  layers.update(decodeList({layers: lines, next: 7, undo: [2, BEN], redo: null}));
+  layers.update(decodeList({layers: lines.map(withSeats), next: 7, undo: [2, BEN], redo: null}));
   return layers;
 }
 
@@ -233,17 +237,17 @@ test("the list names who won at the same time, until the change is put again", (
   Object.assign(mine, {standing: false, shape: null});
   const [one] = listChanges(road(mine), BEN);
   assert.equal(one.lost, "Cleo withdrew it at the same time, and that takes precedence.");
-  assert.deepEqual(lostOf(decodeChange(mine), BEN).mine.stamp, nameOf(5, BEN));
-  assert.equal(lostOf(decodeChange(mine), ADA), null);
+  assert.deepEqual(lostOf(decodeChange(withSeats(mine)), BEN).mine.stamp, nameOf(5, BEN));
+  assert.equal(lostOf(decodeChange(withSeats(mine)), ADA), null);
   mine.operations.push({stamp: [6, BEN], who: "Ben", note: "", when: 0, does: "put", shared: true,
                         lost: null});
-  assert.equal(lostOf(decodeChange(mine), BEN), null);
+  assert.equal(lostOf(decodeChange(withSeats(mine)), BEN), null);
 });
 
 test("a preview says what would be covered, and what would be in force again", () => {
   const was = [["limit", 4, 5, 1200, 2400, 2, null]];
   const layers = road().with([{...ada(COVERED), was}, {...ben([[1500, 1800, null]]), was: null}]
-    .map(decodeChange));
+    .map(withSeats).map(decodeChange));
   const [after, said] = [[...layers.changes.values()], new Words(layers, ADA)];
   assert.deepEqual(affectedBy(after).map((one) => said.effect(one)),
     ["you: 54 km/h, 1.5\u20132.25 km, 0:20:00\u20130:40:00 \u2013 then: in force "

@@ -5,7 +5,7 @@ import itertools
 import json
 import unittest
 
-from painted import EMPTY
+from painted import EMPTY, made_by
 from working import takes_at_most
 from server.model import changes, choices, seen
 from server.model.operations import About, Json, Operation, Shape, Stamp, edit, exclude, lift, put, undo
@@ -45,7 +45,7 @@ class Cases(unittest.TestCase):
     def test_a_private_undone_pair_is_not_shared_and_has_no_effect(self) -> None:
         withdrawal = change(BASE, (2, ADA), LINE, None)
         road = BASE.adding([withdrawal, undo((3, ADA), withdrawal)])
-        self.assertEqual(choices.shareable(road, BASE, ADA), [])
+        self.assertEqual(choices.shareable(road, BASE, made_by(road, ADA)), [])
         self.assertEqual(road.layers, BASE.layers)
 
     def test_a_change_without_its_put_is_in_force(self) -> None:
@@ -87,16 +87,16 @@ class Cases(unittest.TestCase):
             past.append(road.layers)
         for count in range(5, 9):
             past.pop()
-            undone = choices.find_undoable(road, ADA).undo
+            undone = choices.find_undoable(road, made_by(road, ADA)).undo
             assert undone is not None
             road = road.adding([undo((count, ADA), undone)])
             self.assertEqual(road.layers, past[-1])
-        self.assertIsNone(choices.find_undoable(road, ADA).undo)
+        self.assertIsNone(choices.find_undoable(road, made_by(road, ADA)).undo)
         for count in range(9, 13):
-            redone = choices.find_undoable(road, ADA).redo
+            redone = choices.find_undoable(road, made_by(road, ADA)).redo
             assert redone is not None
             road = road.adding([undo((count, ADA), redone)])
-        self.assertIsNone(choices.find_undoable(road, ADA).redo)
+        self.assertIsNone(choices.find_undoable(road, made_by(road, ADA)).redo)
         self.assertEqual((road.layers[LINE].first, road.layers[LINE].last), (1, 6))
 
     def test_z_names_who_has_changed_the_last_own_change(self) -> None:
@@ -105,7 +105,7 @@ class Cases(unittest.TestCase):
         first, bens = change(BASE, (2, ADA), LINE, LONGER), None
         road = BASE.adding([first, other])
         bens = change(road, (3, BEN), LINE, SHAPE)
-        found = choices.find_undoable(road.adding([bens]), ADA)
+        found = choices.find_undoable(road.adding([bens]), made_by(road.adding([bens]), ADA))
         self.assertEqual((found.undo, found.blocked), (None, [first, CLOSURE]))
         self.assertEqual(choices.find_overruling(road.adding([bens]), first), [bens])
 
@@ -114,24 +114,25 @@ class Cases(unittest.TestCase):
         bens = change(BASE, (2, BEN), LINE, WIDE)
         last = change(BASE, (3, ADA), LINE, LONGER)
         road = BASE.adding([last, bens])
-        self.assertEqual(choices.find_undoable(road, ADA).undo, last)
+        self.assertEqual(choices.find_undoable(road, made_by(road, ADA)).undo, last)
         road = road.adding([undo((4, ADA), last)])
         self.assertEqual(road.layers, BASE.adding([bens]).layers)
-        self.assertEqual((choices.find_undoable(road, ADA).undo, choices.find_undoable(road, ADA).blocked), (None, [CLOSURE]))
+        found = choices.find_undoable(road, made_by(road, ADA))
+        self.assertEqual((found.undo, found.blocked), (None, [CLOSURE]))
 
     def test_two_who_undo_one_operation_must_both_redo(self) -> None:
         adas, bens = undo((2, ADA), CLOSURE), undo((2, BEN), CLOSURE)
         road = BASE.adding([adas, bens])
-        self.assertIsNone(choices.find_undoable(road, ADA).redo)
+        self.assertIsNone(choices.find_undoable(road, made_by(road, ADA)).redo)
         road = road.adding([undo((3, BEN), bens)])
-        self.assertEqual((road.layers, choices.find_undoable(road, ADA).redo), ({}, adas))
+        self.assertEqual((road.layers, choices.find_undoable(road, made_by(road, ADA)).redo), ({}, adas))
 
     def test_of_two_withdrawals_at_once_undoing_one_restores_nothing(self) -> None:
         """The closure stays withdrawn, since the other withdrawal is still active; Z says so."""
         adas, bens = change(BASE, (2, ADA), LINE, None), change(BASE, (2, BEN), LINE, None)
         road = in_every_order([CLOSURE, adas, bens])
         self.assertEqual(seen.find_overruled(road, LINE), {adas: bens})
-        self.assertEqual(choices.find_undoable(road, ADA).blocked, [adas, CLOSURE])
+        self.assertEqual(choices.find_undoable(road, made_by(road, ADA)).blocked, [adas, CLOSURE])
         self.assertEqual(road.adding([undo((3, ADA), adas)]).layers, {})
 
     def test_a_late_undo_of_an_old_operation_changes_the_old_road(self) -> None:
@@ -155,16 +156,16 @@ class Cases(unittest.TestCase):
         adas, bens = change(BASE, (2, ADA), LINE, WIDE), change(BASE, (2, BEN), LINE, LONGER)
         shared = BASE.adding([bens])
         road = shared.adding([adas])
-        self.assertEqual(choices.shareable(road, shared, ADA), [])
+        self.assertEqual(choices.shareable(road, shared, made_by(road, ADA)), [])
         taken_back = undo((3, BEN), bens)
-        self.assertEqual(choices.shareable(road.adding([taken_back]), shared.adding([taken_back]), ADA), [adas])
+        self.assertEqual(choices.shareable(road.adding([taken_back]), shared.adding([taken_back]), made_by(road, ADA)), [adas])
 
     def test_an_undo_of_what_others_never_had_is_not_shared_and_neither_is_its_redo(self) -> None:
         change_of_it = change(BASE, (2, ADA), LINE, None)
         back = undo((3, ADA), change_of_it)
         again = undo((4, ADA), back)
         road = BASE.adding([change_of_it, back, again])
-        self.assertEqual(choices.sendable(road, BASE, ADA), [change_of_it])
+        self.assertEqual(choices.sendable(road, BASE, made_by(road, ADA)), [change_of_it])
         self.assertEqual(BASE.adding([change_of_it]).layers, road.layers)
 
     def test_a_very_long_chain_of_undos_is_worked_out_and_twins_have_one_winner(self) -> None:

@@ -24,6 +24,11 @@ THERE = {"block": 10, "limit": 6, "slow": 6, "start": 6, "inflow": 4, "watch": 3
 HISTORIES = 5_000 if ALL else 200
 
 
+def made_by(road: Road, number: int) -> list[Operation]:
+    """Return the operations of a road that were made under a number."""
+    return [one for one in road.record.operations() if one.stamp[1] == number]
+
+
 def plan(kind: str, index: int) -> int | None:
     return {"block": 0, "limit": 5 if index < 4 else 4, "slow": 1, "start": None, "inflow": 2, "watch": 1}[kind]
 
@@ -195,16 +200,16 @@ class History:
 
     def press(self, seat: Seat) -> None:
         for redo in (False, True):
-            found = choices.find_undoable(seat.road, seat.number)
+            found = choices.find_undoable(seat.road, made_by(seat.road, seat.number))
             one = found.redo if redo else found.undo
             if one is not None and self.chance.random() < 0.7:
                 self.make(seat, undo(stamp_of(seat, self.chance), one))
 
     def share(self, site: Site, seat: Seat) -> None:
-        some = choices.shareable(seat.road, site.shared.road, seat.number)
+        some = choices.shareable(seat.road, site.shared.road, made_by(seat.road, seat.number))
         if self.chance.random() < 0.4:
             stamps = {one.stamp for one in seat.road.record.operations() if self.chance.random() < 0.5}
-            some = choices.sendable(seat.road, site.shared.road, seat.number, stamps)
+            some = choices.sendable(seat.road, site.shared.road, made_by(seat.road, seat.number), stamps)
         if some:
             site.shares(some, self.chance)
 
@@ -261,7 +266,7 @@ class History:
     def check_seat(self, site: Site, seat: Seat) -> None:
         """Check that Z and Redo change something, and that the shareable operations are active and make the shared road the seat's."""
         road, shared, chance = seat.road, site.shared.road, self.chance
-        found = choices.find_undoable(road, seat.number)
+        found = choices.find_undoable(road, made_by(road, seat.number))
         for one in (found.undo, found.redo):
             if one is not None:
                 then = road.adding([undo(stamp_of(seat, chance), one)])
@@ -269,12 +274,12 @@ class History:
         for one in found.blocked:
             assert road.adding([undo(stamp_of(seat, chance), one)]).layers == road.layers
             assert any(other.stamp[1] != seat.number for other in choices.find_overruling(road, one)), "somebody else is named"
-        some = choices.shareable(road, shared, seat.number)
+        some = choices.shareable(road, shared, made_by(road, seat.number))
         assert all(map(road.record.counts, some)), "what is undone is not shared"
         everything = road.adding(site.order)
-        then = shared.adding(choices.shareable(everything, shared, seat.number))
+        then = shared.adding(choices.shareable(everything, shared, made_by(everything, seat.number)))
         assert then.layers == everything.layers and then.record.excluded == everything.record.excluded
-        gone = choices.find_forgettable(road, shared, seat.number, chance.randrange(4))
+        gone = choices.find_forgettable(road, shared, made_by(road, seat.number), chance.randrange(4))
         left = EMPTY.adding(one for one in road.record.operations() if one not in gone)
         assert left.layers == road.layers and left.record.excluded == road.record.excluded
         self.counted["forgettable"] += len(gone)
@@ -286,7 +291,7 @@ class History:
         another."""
         for site in self.sites:
             for seat in site.seats:
-                some = choices.shareable(seat.road, site.shared.road, seat.number)
+                some = choices.shareable(seat.road, site.shared.road, made_by(seat.road, seat.number))
                 if some:
                     site.shares(some, self.chance)
         sent = sum(len(site.sent) for site in self.sites)
@@ -298,7 +303,7 @@ class History:
             for seat in site.seats:
                 site.takes(seat, len(site.order), self.chance)
                 # Somebody else's undo may have uncovered an operation of the seat that did not need to be shared before.
-                if not choices.shareable(seat.road, site.shared.road, seat.number):
+                if not choices.shareable(seat.road, site.shared.road, made_by(seat.road, seat.number)):
                     assert seat.road.layers == site.shared.road.layers
 
 

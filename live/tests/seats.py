@@ -55,6 +55,37 @@ class Seats(Case):
             self.assertIn(f"{name} looks like it", caught.exception.why)
         await self.here.join("Adam", "Zoe 1", "Zoé 2", "語", "語語", "Ad-a")
 
+    async def test_a_name_that_cannot_be_seen_is_refused(self) -> None:
+        for name in ("", "\u3164", "\u2800\u2800", "\u115f \u1160", "\u034f\ufe0f"):
+            with self.assertRaises(Refused, msg=name) as caught:
+                await self.here.lab.seating.join(name, "", None)
+            self.assertEqual(caught.exception.text, "NoName")
+
+    async def test_keys_live_as_long_as_their_operations_and_the_newest_forgotten_ones_stay(self) -> None:
+        """Changes that were undone are forgotten, except the newest; the shortened journal has no more keys than the server."""
+        ada, = await self.here.join("Ada")
+        for count in range(30):
+            shape = ["limit", 2, 2, 50 + count, None, 1]
+            await self.here.ask(ada, "gesture", key=f"put {count}", shape=shape)
+            if count:
+                await self.here.ask(ada, "undo", key=f"undo {count}", stamp=f"put {count}")
+        self.here.keeper._forget()
+        seat = self.here.keeper.state.seats[ada]
+        with mock.patch("server.journal.state.MOST_FORGOTTEN_KEYS", 7):
+            await self.here.keeper.compact()
+        stamps = {one.stamp for one in seat.own}
+        held = {key for key, stamp in seat.done.items() if stamp in stamps}
+        self.assertIn("put 0", held)
+        made = [f"{does} {count}" for count in range(1, 30) for does in ("put", "undo")]
+        forgotten = [key for key in made if key not in held]
+        self.assertGreater(len(forgotten), 20)
+        self.assertEqual(seat.done.keys(), held | {*forgotten[-7:]})
+        kept, = [entry["done"]["keys"] for entry in self.here.entries() if "done" in entry]
+        self.assertEqual({key for key, _ in kept}, seat.done.keys())
+        for key in (forgotten[-1], "put 0"):  # a key that is sent again gets the answer of its first time
+            said = await self.here.ask(ada, "gesture", key=key, shape=["limit", 2, 2, 7, None, 1])
+            self.assertTrue(said["again"])
+
     async def test_large_operations_are_applied_in_smaller_groups(self) -> None:
         small, large = (edit((1, 65), {("block", cell, 5): 1 for cell in range(many)}) for many in (1, 1_200))
         for some, size in (([small] * 250, 100), ([large] * 3, 1), ([small, large], 1), ([small] * 3, 3)):
@@ -126,6 +157,26 @@ class Seats(Case):
                 self.here = await self.enterAsyncContext(Here(self.here.folder))
             line, = (await self.here.ask(others[0], "layers", at="shared"))["layers"]
             self.assertEqual([line["who"], line["operations"][0]["who"]], ["Ada", "Ada"])
+
+    async def test_who_gets_a_freed_seat_undoes_nothing_of_the_one_who_left(self) -> None:
+        """The journal says what a seat made, not the number in a stamp."""
+        async with Here() as here:
+            await here.join("Ada")
+            await here.ask(1, "gesture", key="a", shape=["limit", 1, 1, 10, None, 3])
+            await here.share(1)
+            own = (await here.ask(1, "layers"))["layers"][0]
+            self.assertEqual((own["seat"], own["operations"][0]["seat"]), (1, 1))
+            await here.ask(1, "leave")
+            here.keeper.connected.clear()
+            for _ in range(2):
+                self.assertEqual(await here.join("Ben"), [1])
+                await here.take(1)
+                said = await here.ask(1, "layers")
+                self.assertEqual(said["undo"], None)
+                self.assertEqual([("seat" in line, "seat" in line["operations"][0]) for line in said["layers"]], [(False, False)])
+                await here.ask(1, "leave")
+                here.keeper.connected.clear()
+                await here.keeper.compact()
 
     async def test_requests_for_whole_lists_wait_for_their_turn(self) -> None:
         """Earlier questions of the seat are answered first, and questions of others while it waits."""

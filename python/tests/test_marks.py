@@ -67,7 +67,7 @@ def road(x, seed, add=8, *, more=9):
         y = []
     name = x in NAMES or "z" in {"q", "r", "s"}
     return {"y": sum(y) + DRIVER.drive(x) + SCALED(x) + helpers.half(x) + third(x) + late.CONSTANT + math.floor(x) + SETTINGS.gain
-            + SHIFT(3) + add + more + bool(PATTERN) + name, "here": str(HERE)[:0]}
+            + SHIFT(3) + add + more + bool(PATTERN) + name, "here": 0 * len(str(HERE))}
 
 def measured(x):
     return None
@@ -230,7 +230,8 @@ class Marks(unittest.TestCase):
             self.assertEqual(ran.returncode, 0, ran.stderr)
         for out, before in (("out.csv", None), ("../part-1.csv", (self.folder / "part-1.csv").read_bytes())):
             ran = run("right", "--out", out, "--take", "../part-3.csv", "../part-2.csv")
-            self.assertRegex(ran.stderr, "^../part-2.csv has results of model-[0-9a-f]{12}, but the model is now model-[0-9a-f]{12}: ")
+            self.assertRegex(ran.stderr, "^../part-2.csv has results of model-[0-9a-f]{12}, but the model is now model-[0-9a-f]{12}; changed: "
+                                         "model.LIMIT: name a different file")
             self.assertEqual(ran.returncode, 1)
             path = self.folder / "right" / out
             self.assertEqual(path.read_bytes() if path.exists() else None, before)

@@ -16,10 +16,10 @@ from pathlib import Path
 from typing import Any
 
 from test_page import TOP, find_python
-from zegdrut import Fault, Plan, RoadLab
+from zegdrut import Fault, NoProgram, Plan, RoadLab
 from zegdrut.commands.sweep import format_duration, read_seeds, read_values
 from zegdrut.sweeps.pool import run_in_parallel
-from zegdrut.sweeps.results import Results, read_rows, parse_cell, format_cell
+from zegdrut.sweeps.results import Results, Row, read_rows, parse_cell, format_cell
 from zegdrut.sweeps import Failure, Flows, make_grid, sweep
 
 MODEL = '''
@@ -113,7 +113,7 @@ class Values(unittest.TestCase):
     def test_cells_keep_their_values(self) -> None:
         for value in (0.1 + 0.2, 1e-300, -5, 2 ** 70, None, "a,\"b\"", "1_0", "--", float("inf")):
             self.assertEqual(parse_cell(format_cell(value)), value)
-        for wrong in (True, [1], "a\nb"):
+        for wrong in (True, ["a"], [[1], [2, 3]], "a\nb", "", {}):
             with self.assertRaises(TypeError):
                 format_cell(wrong)
 
@@ -137,7 +137,7 @@ class Sweeps(Folder):
             found = sweep(fail_by_x, {"x": range(10)}, (1, 2), out=self.out, jobs=3)
             errors = ["ZeroDivisionError: no such road", "its process ended by SIGKILL", "its process ended with status 5",
                       "Fault: it returns {}, but a run must return a dictionary with at least one figure", "Fault: its figures are z, but other rows have y",
-                      "TypeError: [1] must be a number, a string or None"]
+                      "Fault: y is a series with the axes axis_0, but in other rows a number"]
             self.assertEqual([(failure.point["x"], failure.seed, failure.error) for failure in found.failures[:12]],
                              [(x, seed, error) for x, error in enumerate(errors, 1) for seed in (1, 2)])
             self.assertEqual([failure.error.partition(":")[0] for failure in found.failures[12:]], ["Refused"] * 2)
@@ -149,7 +149,7 @@ class Sweeps(Folder):
 
     def test_a_point_that_fails_by_one_seed_has_no_mean(self) -> None:
         found = sweep(lambda x, seed: {"y": 1 // (x - seed)}, {"x": [2, 9]}, (1, 2, 3))
-        self.assertEqual(found.failures, [Failure({"x": 2}, 2, "ZeroDivisionError: integer division or modulo by zero")])
+        self.assertEqual(found.failures, [Failure(Row(x=2), 2, "ZeroDivisionError: integer division or modulo by zero")])
         self.assertEqual([row["x"] for row in found.means()], [9])
 
     def test_a_plan_is_measured(self) -> None:
@@ -185,6 +185,29 @@ class Sweeps(Folder):
         self.assertIn("the result cannot be sent to the parent process: ", done.error or "")
         self.assertEqual([done.value for done in run_in_parallel(len, ["ab", "c"], 9)].count(2), 1)
         self.assertEqual(list(run_in_parallel(len, [])), [])
+
+    def test_a_run_that_takes_too_long(self) -> None:
+        """End it, and its program; the other runs go on."""
+        def model(x: int, seed: int) -> dict[str, int]:
+            while x == 2:
+                time.sleep(0.01)
+            return {"y": x}
+        found = sweep(model, {"x": [1, 2, 3]}, timeout=3, jobs=2)
+        self.assertEqual(found.failures, [Failure(Row(x=2), 1, "it took longer than its timeout")])
+        self.assertEqual([row["y"] for row in found.rows], [1, 3])
+
+    def test_no_program(self) -> None:
+        """End the sweep at once if a run needs the program and there is none."""
+        def model(x: int, seed: int) -> dict[str, int]:
+            if x == 1:
+                with RoadLab(Plan(length=40, inlets=[(0, 1)], zones=[(5, 0)])):
+                    pass
+            time.sleep(0.1 if x > 1 else 0)
+            return {"y": x}
+        with self.assertRaisesRegex(NoProgram, "no program at /nowhere"):
+            sweep(model, {"x": range(1, 100)}, out=self.out, jobs=2, program="/nowhere")
+        self.assertLess(len(read_rows(self.out)), 50)
+        self.assertEqual(sweep(model, {"x": [2]}, program="/nowhere").rows[0]["y"], 2)
 
     def test_jobs_run_in_parallel(self) -> None:
         """Check that all processes work, each yields its own results, and they end with the caller."""

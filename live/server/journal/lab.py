@@ -273,15 +273,15 @@ class Lab:
         """Return the lines that have changed since a version of the list, and what undo and redo would do."""
         marks = replica.begin_list()
         lines, after = Lister(self.state, replica).lines_since(marks, version - replica.begun, LIST_AT_ONCE)
-        found = find_undoable(replica.road, replica.number)
+        found = find_undoable(replica.road, replica.own)
         return {"layers": lines, "since": version, "next": replica.version if after is None else replica.begun + after,
                 "more": after is not None, "undo": found.undo and found.undo.stamp, "redo": found.redo and found.redo.stamp,
-                "blocked": self._blocked(replica.road, found.blocked)}
+                "blocked": self._blocked(replica, found.blocked)}
 
-    def _blocked(self, road: Road, some: list[Operation]) -> list[ReplyFields]:
+    def _blocked(self, replica: Replica, some: list[Operation]) -> list[ReplyFields]:
         """Return the seat's operations that undo skips, each with the names of those who changed its line since."""
-        return [{"stamp": one.stamp, "by": sorted({other.about.who for other in find_overruling(road, one)
-                                                   if other.stamp[1] != one.stamp[1]})} for one in some[:MOST_BLOCKED]]
+        return [{"stamp": one.stamp, "by": sorted({other.about.who for other in find_overruling(replica.road, one)
+                                                   if other not in replica.own})} for one in some[:MOST_BLOCKED]]
 
     # What is shared
 
@@ -293,7 +293,7 @@ class Lab:
                 await write.require_writable()
                 self._restamp_early(seat, write)
             chosen = None if stamps is None else {seat.renamed.get(stamp, stamp) for stamp in stamps}
-            given = seat.shareable() if chosen is None else sendable(seat.road, shared.road, seat.number, chosen)
+            given = seat.shareable() if chosen is None else sendable(seat.road, shared.road, seat.own, chosen)
             before = shared.road
             if given:
                 await write.require_writable()

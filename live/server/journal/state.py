@@ -30,6 +30,7 @@ from .stamps import StampClock
 TAB_FORM = 4  # the protocol of tabs
 SITE_FORM = 3  # the protocol of sites
 MOST_NEWS = 100
+MOST_FORGOTTEN_KEYS = 1_000  # keys of a seat whose operations were forgotten
 APPLIED_AT_ONCE = 100  # operations that are applied before others get a turn
 LAYERS_PER_UNIT = 12  # layers of an operation that count as one more operation
 MOST_UNREADABLE = 10  # operations of a journal that cannot be read; with more, the server does not start
@@ -67,6 +68,7 @@ class Replica:
         self.index, self._state = index, state
         self.begun = self.version = state.begun  # the first and the present version of its list
         self.marks: dict[Stamp, int] | None = None  # line -> version of its last change, relative to `begun`
+        self.own: dict[Operation, None] = {}  # made at this seat, in order
         self.places: dict[Operation, int] = {}  # operation -> its place in order of arrival
         self.size: int = 0  # how many operations it holds
         self._road: Road | None = None
@@ -190,7 +192,6 @@ class SeatReplica(Replica):
         self.count = count  # the greatest count in its stamps
         self.upto = 0  # how many operations of the shared road it has taken
         self.used: float = 0  # when it last had a tab, in seconds since 1970, in seconds since 1970
-        self.own: dict[Operation, None] = {}  # made at this seat, in order
         self.done: dict[str, Stamp] = {}  # its operations by their keys
         self.renamed: dict[Stamp, Stamp] = {}  # the stamps of operations that were stamped again
         self.idle: frozenset[Operation] = frozenset()  # private ones that need not be shared, as the list shows
@@ -222,7 +223,7 @@ class SeatReplica(Replica):
             return []
         road, shared = self.road, self._state.shared.road
         if self._shareable is None or self._shareable[0] is not road or self._shareable[1] is not shared:
-            self._shareable = road, shared, shareable(road, shared, self.number, self._all_shared(shared))
+            self._shareable = road, shared, shareable(road, shared, self.own, self._all_shared(shared))
         return self._shareable[2]
 
     def _all_shared(self, shared: Road) -> Road:
@@ -422,7 +423,7 @@ class State:
         private = self.private(seat)
         if len(private) <= kept:
             return
-        gone = find_forgettable(seat.road, self.shared.road, seat.number, kept) & set(private)
+        gone = find_forgettable(seat.road, self.shared.road, seat.own, kept) & set(private)
         if not gone:
             return
         lines = {line for one in gone for line in lines_of(seat.road, one)}
@@ -430,6 +431,12 @@ class State:
         for one in gone:
             self._drop(seat, one)
         seat.rebuild_without(lines, others - gone)
+
+    def forget_keys(self, seat: SeatReplica) -> None:
+        """Drop keys whose operations were forgotten, except the newest."""
+        held = {*self.by_stamp, *(one.stamp for one in self.unreadable)}
+        for key in [key for key, stamp in seat.done.items() if stamp not in held][:-MOST_FORGOTTEN_KEYS]:
+            del seat.done[key]
 
     # Compaction
 

@@ -1,9 +1,9 @@
-"""Choose what a seat can undo, redo, share and forget."""
+"""Choose what a seat can undo, redo, share and forget. `own` are the operations that were made at the seat."""
 from __future__ import annotations
 
-from typing import AbstractSet, NamedTuple
+from typing import AbstractSet, Collection, NamedTuple
 
-from .operations import SEATS, Operation, Stamp, sort_by_stamp
+from .operations import Operation, Stamp, sort_by_stamp
 from .projection import changed_layers
 from .road import Road
 
@@ -17,9 +17,9 @@ class Undoable(NamedTuple):
     blocked: list[Operation]
 
 
-def own_operations(road: Road, number: int) -> list[Operation]:
-    """Return the operations with a number in their stamps, the oldest first."""
-    return sort_by_stamp(one for one in road.record.operations() if one.stamp[1] == number)
+def own_operations(road: Road, own: Collection[Operation]) -> list[Operation]:
+    """Return the own operations on a road, the oldest first."""
+    return sort_by_stamp(one for one in own if one in road)
 
 
 def would_change(road: Road, one: Operation) -> bool:
@@ -27,11 +27,11 @@ def would_change(road: Road, one: Operation) -> bool:
     return one not in road.record.void and road.is_changed_by(road.record.flipped_by_undo(one))
 
 
-def find_undoable(road: Road, number: int) -> Undoable:
+def find_undoable(road: Road, own: Collection[Operation]) -> Undoable:
     """Return what undo and redo of a seat do next. Both skip operations whose undo would change nothing."""
     done: dict[Stamp, Operation] = {}
     undone: dict[Stamp, tuple[Operation, Operation]] = {}  # by the stamp of an undo: the undo, and what it undid
-    for one in own_operations(road, number):
+    for one in own_operations(road, own):
         if one.undoes in done:
             undone[one.stamp] = one, done.pop(one.undoes)
         elif one.undoes in undone:
@@ -46,7 +46,7 @@ def find_undoable(road: Road, number: int) -> Undoable:
         if would_change(road, one):
             undo = one
             break
-        if any(other.stamp[1] != number for other in find_overruling(road, one)):
+        if any(other not in own for other in find_overruling(road, one)):
             blocked.append(one)
     redo = next((one for one, _ in reversed(undone.values()) if would_change(road, one)), None)
     return Undoable(undo, redo, blocked)
@@ -65,27 +65,26 @@ def find_overruling(road: Road, one: Operation) -> list[Operation]:
     return sorted(found - {root}, reverse=True)
 
 
-def private(road: Road, shared: Road, number: int) -> list[Operation]:
+def private(road: Road, shared: Road, own: Collection[Operation]) -> list[Operation]:
     """Return the seat's own operations that are not shared, the oldest first."""
-    return [one for one in own_operations(road, number) if one not in shared]
+    return [one for one in own_operations(road, own) if one not in shared]
 
 
-def shareable(road: Road, shared: Road, number: int, then: Road | None = None) -> list[Operation]:
-    """Return the private operations that count and would change the shared road. Leave out undos of private operations. `then` is the
-    shared road with all private operations, if that is known."""
-    own = sendable(road, shared, number)
-    if number // SEATS in shared.record.excluded:
-        return own  # what they would change is known only when the site is included again
-    then = then or shared.adding(own)
+def shareable(road: Road, shared: Road, own: Collection[Operation], then: Road | None = None) -> list[Operation]:
+    """Return the private operations that count and would change the shared road, and those of an excluded site: what they would change is
+    known only when it is included again. Leave out undos of private operations. `then` is the shared road with all private operations,
+    if that is known."""
+    some, out = sendable(road, shared, own), shared.record.excluded
+    then = then or shared.adding(some)
     names, excluded = changed_layers(shared, then), then.record.excluded ^ shared.record.excluded
     names.update(road.layers[name].line for name in list(names) for road in (shared, then) if name in road.layers)
-    return [one for one in own if any(each.names & names or each.excludes is not None and each.excludes[0] in excluded
-                                      for each in undo_chain(road, one))]
+    return [one for one in some if one.site in out or any(
+        each.names & names or each.excludes is not None and each.excludes[0] in excluded for each in undo_chain(road, one))]
 
 
-def sendable(road: Road, shared: Road, number: int, stamps: AbstractSet[Stamp] | None = None) -> list[Operation]:
+def sendable(road: Road, shared: Road, own: Collection[Operation], stamps: AbstractSet[Stamp] | None = None) -> list[Operation]:
     """Return the private operations that count, all of them or those with these stamps. Leave out undos of private operations."""
-    return [one for one in private(road, shared, number) if road.record.counts(one)
+    return [one for one in private(road, shared, own) if road.record.counts(one)
             and (one.undoes is None or one.undoes in shared.record.held) and (stamps is None or one.stamp in stamps)]
 
 
@@ -97,11 +96,11 @@ def undo_chain(road: Road, one: Operation) -> list[Operation]:
     return found
 
 
-def find_forgettable(road: Road, shared: Road, number: int, kept: int) -> set[Operation]:
+def find_forgettable(road: Road, shared: Road, own: Collection[Operation], kept: int) -> set[Operation]:
     """Return the private operations of a seat that can be forgotten without any effect on the road: those that are undone, with their
     undos, and those on private layers that are withdrawn. Leave out the newest `kept`, which undo and redo may need."""
-    own = private(road, shared, number)
-    gone = set(own[:max(0, len(own) - kept)])
+    some = private(road, shared, own)
+    gone = set(some[:max(0, len(some) - kept)])
     while needed := {one for one in gone if is_needed(road, one, gone)}:
         gone -= needed
     return gone

@@ -4,7 +4,7 @@ from __future__ import annotations
 
 import asyncio
 import time
-from typing import Protocol, Sequence, TypeVar
+from typing import Callable, Protocol, Sequence, TypeVar
 
 from zegdrut.program.wire import WrittenEdit
 
@@ -17,7 +17,7 @@ from .program import ProgramExited, Program, Times, command_of, import_lines, st
 from .turns import Job, More
 
 SIDES = ("before", "after")
-MOST_PREVIEWS = 4  # previews with a program; to make room, the least recently used one is dropped
+MOST_PREVIEWS = 4  # previews that keep a program after an answer
 PREVIEW_UNUSED = 600.0  # seconds without a query after which a preview is dropped
 LET_GO = "the two roads of this preview were dropped"
 T = TypeVar("T")
@@ -74,6 +74,7 @@ class Preview:
         """`before` and `after` are all edits of the two roads."""
         self._keeper, self.edits, self.demands = keeper, {"before": before, "after": after}, demands
         self.used = time.monotonic()
+        self.when_idle: Callable[[], None] = lambda: None  # called after each answer
         self._is_over = False
         self._program: Program | None = None
         self._fed = dict.fromkeys(SIDES, 0)
@@ -81,9 +82,13 @@ class Preview:
         self._lock = asyncio.Lock()
 
     @property
+    def has_program(self) -> bool:
+        return self._program is not None
+
+    @property
     def is_idle(self) -> bool:
-        """Return whether its program runs and is not answering a query."""
-        return self._program is not None and not self._lock.locked()
+        """Return whether it answers no query at present."""
+        return not self._lock.locked()
 
     async def prepare_program(self, side: str) -> Program:
         """Return its program, when that has the edits of a side and has simulated it as far as it shall."""
@@ -110,15 +115,21 @@ class Preview:
         return program
 
     async def run_job(self, side: str, body: Job[T]) -> T:
-        async with self._lock:
-            try:
-                await self.prepare_program(side)
-                while isinstance(said := await body(), More):
-                    pass
-                return said
-            except ProgramExited as fault:
-                self.close()
-                raise no_preview() from fault
+        try:
+            async with self._lock:
+                return await self._run_in_turn(side, body)
+        finally:
+            self.when_idle()
+
+    async def _run_in_turn(self, side: str, body: Job[T]) -> T:
+        try:
+            await self.prepare_program(side)
+            while isinstance(said := await body(), More):
+                pass
+            return said
+        except ProgramExited as fault:
+            self.close()
+            raise no_preview() from fault
 
     async def say_all(self, lines: list[bytes], times: Times) -> list[bytes]:
         """Send lines all at once and return the program's replies; raise the first refusal. To be called in a job."""
@@ -181,13 +192,18 @@ class Previews:
         if old is not None:
             old.end()
         if preview is not None:
+            preview.when_idle = self._end_programs
             self._of[index] = preview
 
-    def get(self, index: int) -> Preview:
-        """Return the preview of a seat. Raise `Refused` if it has none. End programs of other seats' previews that are not used."""
-        running = sorted((one for at, one in self._of.items() if one.is_idle and at != index), key=lambda one: one.used)
-        for one in running[:max(0, len(running) + 1 - MOST_PREVIEWS)]:
+    def _end_programs(self) -> None:
+        """End the programs of previews that were not used for longest and answer no query, if too many have one."""
+        running = [one for one in self._of.values() if one.has_program]
+        idle = sorted((one for one in running if one.is_idle), key=lambda one: one.used)
+        for one in idle[:max(0, len(running) - MOST_PREVIEWS)]:
             one.close()
+
+    def get(self, index: int) -> Preview:
+        """Return the preview of a seat. Raise `Refused` if it has none. Drop other seats' previews that were not used for long."""
         before = time.monotonic() - PREVIEW_UNUSED
         for at in [at for at, one in self._of.items() if one.used < before and at != index]:
             self.put(at, None)

@@ -17,12 +17,13 @@ NO_OPERATIONS: frozenset[Operation] = frozenset()
 
 Act = TypedDict("Act", {
     "stamp": Stamp, "who": str, "note": str, "when": float, "does": str, "shared": bool, "undoes": "Stamp | None", "lost": "Stamp | None",
-    "idle": bool, "void": bool, "shape": "Shape | None", "demand": "float | None"}, total=False)
-"""What an operation did to a line, in the form of a reply. `lost` is the operation that won over this one."""
+    "idle": bool, "void": bool, "shape": "Shape | None", "demand": "float | None", "seat": int}, total=False)
+"""What an operation did to a line, in the form of a reply. `lost` is the operation that won over this one; `seat` is the seat of this
+server that made it, if one did."""
 Line = TypedDict("Line", {
     "name": Stamp, "gone": bool, "kind": "str | None", "shape": "Shape | None", "who": str, "note": str, "when": float, "height": Stamp,
     "standing": bool, "shared": bool, "shown": Sequence[Rectangle], "operations": Sequence[Act], "edits": Sequence[Sequence["str | int"]],
-    "was": "Sequence[Rectangle] | None", "demand": float, "planned": bool}, total=False)
+    "was": "Sequence[Rectangle] | None", "demand": float, "planned": bool, "seat": int}, total=False)
 """A line of a list, in the form of a reply. A line that is `gone` has only its name. `was` is what the line shows without the previewed
 change. `demand` is the demand that an inflow stands for, in cars per hour, if its author gave one; `planned` is true if that is the
 demand of the road's file."""
@@ -32,7 +33,7 @@ class Lister:
     """Makes the lines of a replica's list, for the road of the replica or for another road."""
 
     def __init__(self, state: State, replica: Replica, road: Road | None = None) -> None:
-        self._places, self._road = state.shared.places, road or replica.road
+        self._places, self._makers, self._road = state.shared.places, state.makers, road or replica.road
         self._idle: AbstractSet[Operation] = replica.idle if isinstance(replica, SeatReplica) else NO_OPERATIONS
 
     def line(self, line: Stamp) -> Line:
@@ -52,6 +53,8 @@ class Lister:
             "note": first.about.note, "when": first.about.when, "height": road.height_of(line),
             "standing": self._is_standing(line, done), "shared": done[-1] in self._places, "shown": self.shown(line),
             "operations": [self.operation(one, line, losses.get(one)) for one in done]}
+        if first in self._makers:
+            said["seat"] = self._makers[first]
         if edits:
             said["edits"] = edits
         demand = demand_of(road, line)
@@ -105,6 +108,8 @@ class Lister:
             "stamp": one.stamp, "who": about.who, "note": about.note, "when": about.when, "does": self.describe_act(one, line),
             "shared": one in self._places, "undoes": one.undoes,
             "lost": None if won is None else won.stamp}
+        if one in self._makers:
+            said["seat"] = self._makers[one]
         if one in self._idle:
             said["idle"] = True
         if not self._road.record.counts(one):

@@ -274,7 +274,7 @@ class Questions:
             if what == "take":
                 return await self._make_preview("take", own, state.unseen(own))
             return await self._make_preview("share", state.shared, own.shareable() if stamps is None else sendable(
-                own.road, state.shared.road, own.number, stamps))
+                own.road, state.shared.road, own.own, stamps))
         fed = SHARED if what == "share" else index
         preview, reply = await self._keeper.read_committed(lambda: self._keeper.ask(index, (fed,), body), "shared")
         self._previews.put(index, preview)

@@ -12,7 +12,7 @@ MEANINGS = {
     "Failed": "The server could not do this; its log says why",
     "NameTaken": "A seat has this name, or one that looks like it: choose another",
     "NoEffect": "This operation would change nothing",
-    "NoName": "A name must have 1 to 64 characters",
+    "NoName": "A name must have 1 to 64 characters, and one that can be seen",
     "NoPreview": "The two roads of the preview are no longer kept: request a new preview",
     "NoProgram": "The program crashed on this twice; the server's log says why",
     "NoSuchChange": "The seat holds no change with this stamp or key",

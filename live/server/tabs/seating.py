@@ -105,8 +105,8 @@ class Seating:
         return await self._give(index, self._state.seats[index].name)
 
     async def _new_seat(self, name: str) -> tuple[int, str]:
-        if not name:
-            raise self._refuse_with_seats("NoName", "give a name of 1 to 64 characters")
+        if not fold_look_alikes(name):
+            raise self._refuse_with_seats("NoName", "give a name of 1 to 64 characters, with one that can be seen")
         alike = self._find_similar_name(name)
         if alike is not None:
             hint = "" if alike == name else f", and {name} looks like it"
@@ -114,9 +114,7 @@ class Seating:
         free = [seat.index for seat in self._state.seats[1:] if not seat.key]
         if not free:
             raise self._refuse_with_seats("AllSeatsTaken", "all 63 seats are taken: take one over")
-        made = {number for _, number in self._state.by_stamp}  # prefer seats whose number has made no operations
-        fresh = [index for index in free if self._state.seats[index].number not in made]
-        return await self._give((fresh or free)[0], name, self._state.works)
+        return await self._give(free[0], name, self._state.works)
 
     async def _give_again(self, key: str) -> tuple[int, str]:
         """Give a tab the seat that its signed key names. The seat was given while the disk refused writes, and must be free."""

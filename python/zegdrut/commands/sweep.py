@@ -2,18 +2,23 @@
 
     python3 -m zegdrut sweep FILE.py:FUNCTION --grid NAME=VALUES [--grid ..] [OPTIONS]
     python3 -m zegdrut sweep FILE.py:FUNCTION --points POINTS.csv [OPTIONS]
+    python3 -m zegdrut sweep --again TABLE.csv.json
 
     --grid NAME=VALUES   values of a parameter: 1,2,5 or from:to:step (both ends included); once for each parameter
     --points FILE        a point per line, with the names of the parameters in the first line
     --seeds SEEDS        1-4 or 1,5,9 (default: 1)
     --measure FROM:TO    the function returns a Plan: measure flow, density and both mean speeds over these steps
     --measure FILE:NAME  the function returns a Plan: this function gets its lab, and returns the figures
-    --out FILE           the results, a row for each run as it ends (default: sweep.csv)
+    --out FILE           the results, a row for each run as it ends (default: sweep.csv); FILE.json beside it says what made them
     --means FILE         means over the seeds with their 95 % intervals, a row for each point
     --jobs N             the number of processes (default: one per processor)
     --part K/N           run only the K-th of N parts, to share a sweep among machines
     --take FILE ..       first copy the results of other parts
     --version TEXT       stands for the source of the model in the column `model`: give another one whenever the model changes
+    --unit NAME=UNIT     the unit of a parameter or a figure; once for each
+    --program PATH       the program of the runs, by default the one that `python3 -m zegdrut program` prints
+    --timeout SECONDS    end a run that takes longer; it counts as failed
+    --again FILE.json    make the table again that lies beside FILE.json, in --out (default: NAME.again.csv), and compare both
 
 The function is called with the parameters of a point by name. Without --measure it also gets `seed`, and returns figures by name. The
 same command continues after an interrupt: runs that --out already has are not repeated. Failed runs are named at the end and in
@@ -29,14 +34,16 @@ import sys
 import time
 from pathlib import Path
 from types import FrameType
-from typing import Sequence, cast
+from typing import Mapping, Sequence, cast
 
 from ..program.bars import Bar
 from ..program.errors import Fault, LabError, describe_error
 from ..reports.outputs import prepare_file
 from ..sweeps.marks import OtherMark
-from ..sweeps.results import format_row, replace_file, read_rows, parse_cell, format_cell
-from ..sweeps.sweeps import Flows, Measure, Model, Points, Sweep, make_grid, list_points, sweep
+from ..sweeps.about import About, Named, explain_change, read_about
+from ..sweeps.results import Row, Value, format_row, replace_file, read_rows, parse_cell, format_cell
+from ..sweeps.runs import Flows, Measure, Model, list_points, make_grid
+from ..sweeps.sweeps import Sweep, find_mark, sweep
 
 EVERY = 10.0
 """The seconds between lines of progress, if standard error is not a terminal."""
@@ -98,12 +105,17 @@ def read_pair(text: str, between: str) -> tuple[int, int]:
     return int(first), int(last)
 
 
-def find_measure(text: str) -> Measure:
-    """Return the measurement of a lab: flows over FROM:TO, or the function FILE:NAME."""
+def find_measure(named: Named) -> Measure | None:
+    """Return the measurement of a lab: flows over FROM:TO, or the function FILE:NAME; None for none."""
+    if isinstance(named, dict):
+        first, to, cells = named["flows"]
+        return Flows(cast(int, first), cast(int, to), (cells[0], cells[1]) if isinstance(cells, list) else None)
+    if named is None:
+        return None
     try:
-        return Flows(*read_pair(text, ":"))
+        return Flows(*read_pair(named, ":"))
     except ValueError:
-        return find_function(text)
+        return find_function(named)
 
 
 class ProgressDisplay:
@@ -146,28 +158,40 @@ def write_means(path: Path, found: Sweep) -> None:
 def read_arguments(words: Sequence[str] | None) -> argparse.Namespace:
     """Read the command line."""
     parser = argparse.ArgumentParser("zegdrut sweep", description=__doc__, formatter_class=argparse.RawDescriptionHelpFormatter)
-    parser.add_argument("model", metavar="FILE.py:FUNCTION")
+    parser.add_argument("model", metavar="FILE.py:FUNCTION", nargs="?")
     parser.add_argument("--grid", action="append", default=[], metavar="NAME=VALUES")
     parser.add_argument("--points", metavar="FILE")
     parser.add_argument("--seeds", default="1")
     parser.add_argument("--measure", metavar="FROM:TO")
-    parser.add_argument("--out", type=Path, default=Path("sweep.csv"), metavar="FILE")
+    parser.add_argument("--out", type=Path, metavar="FILE")
     parser.add_argument("--means", type=Path, metavar="FILE")
     parser.add_argument("--jobs", type=int, metavar="N")
     parser.add_argument("--part", default="1/1", metavar="K/N")
     parser.add_argument("--take", nargs="+", default=[], metavar="FILE")
     parser.add_argument("--version", metavar="TEXT")
-    return parser.parse_args(words)
+    parser.add_argument("--unit", action="append", default=[], metavar="NAME=UNIT")
+    parser.add_argument("--program", metavar="PATH")
+    parser.add_argument("--timeout", type=float, metavar="SECONDS")
+    parser.add_argument("--again", type=Path, metavar="FILE.json")
+    given = parser.parse_args(words)
+    if (given.model is None) == (given.again is None):
+        parser.error("name a model, FILE.py:FUNCTION, or a table with --again")
+    return given
 
 
-def read_points(given: argparse.Namespace) -> Points:
-    """Return the points of --grid and --points. Fault: they are missing or malformed."""
-    wrong = next((one for one in given.grid if "=" not in one), None)
+def split_options(name: str, given: Sequence[str]) -> dict[str, str]:
+    """Return the names and values of an option that is given several times. Fault: one has no `=`."""
+    wrong = next((one for one in given if "=" not in one), None)
     if wrong:
-        raise Fault(f"--grid {wrong}: write NAME=VALUES")
-    parameters = {name: read_values(values) for name, _, values in (one.partition("=") for one in given.grid)}
-    listed = read_rows(given.points) if given.points else [{}]
-    points = [{**point, **other} for point in listed for other in make_grid(parameters)]
+        raise Fault(f"--{name} {wrong}: write NAME={'VALUES' if name == 'grid' else 'UNIT'}")
+    return {one: value for one, _, value in (text.partition("=") for text in given)}
+
+
+def read_points(given: argparse.Namespace) -> list[Row]:
+    """Return the points of --grid and --points. Fault: they are missing or malformed."""
+    parameters = {name: read_values(values) for name, values in split_options("grid", given.grid).items()}
+    listed = read_rows(given.points) if given.points else [Row()]
+    points: list[dict[str, object]] = [{**point, **other} for point in listed for other in make_grid(parameters)]
     if points == [{}]:
         raise Fault("name the points: --grid NAME=VALUES or --points FILE")
     return list_points(points)
@@ -178,23 +202,56 @@ def raise_interrupt(_: int, __: FrameType | None) -> None:
     raise KeyboardInterrupt
 
 
+def read_request(given: argparse.Namespace) -> tuple[str, Named, Sequence[Mapping[str, Value]], list[int]]:
+    """Return the names of the model and the measurement, the points and the seeds of a command."""
+    try:
+        return given.model, given.measure, read_points(given), read_seeds(given.seeds)
+    except ValueError:
+        raise Fault("write --seeds as 1-4 or 1,5,9") from None
+
+
+def find_again(given: argparse.Namespace, about: About) -> tuple[str, Named, Sequence[Mapping[str, Value]], list[int]]:
+    """Return the same of a table, and print what has changed since. Fault: its model has no name."""
+    if about.model is None or about.measure is None and about.plans:
+        raise Fault(f"{given.again} names no {'measurement' if about.model else 'model'} that can be imported, such as MODULE:FUNCTION: make the "
+                    "table with the script that made it")
+    given.version = about.version
+    mark = find_mark(find_function(about.model), find_measure(about.measure), about.version, given.program, given.again)
+    table = given.again.with_name(about.table)
+    if mark.text != about.mark:
+        print(f"{table} was made by {about.mark}, and this run is {mark.text}{explain_change(table, mark)}", file=sys.stderr)
+    return about.model, about.measure, about.points, about.seeds
+
+
+def compare_tables(one: Path, other: Path) -> bool:
+    """Say whether two tables are the same. Return it."""
+    is_same = one.exists() and one.read_bytes() == other.read_bytes()
+    print(f"{other} is {'the same as' if is_same else 'different from'} {one}" + ", byte for byte" * is_same, file=sys.stderr)
+    return is_same
+
+
 def run_sweep(given: argparse.Namespace) -> int:
     """Run the sweep. Return the exit status."""
+    about = read_about(given.again) if given.again else None
     try:
-        seeds, part = read_seeds(given.seeds), read_pair(given.part, "/")
+        part = tuple(about.part) if about else read_pair(given.part, "/")
     except ValueError:
-        raise Fault("write --seeds as 1-4 or 1,5,9, and --part as K/N") from None
-    prepare_file(given.out)
+        raise Fault("write --part as K/N") from None
+    model, measure, points, seeds = find_again(given, about) if about else read_request(given)
+    first = given.again.with_name(about.table) if about else None
+    out = given.out or (first.with_name(f"{first.stem}.again.csv") if first else Path("sweep.csv"))
+    prepare_file(out)
     if given.means and str(given.means) != "-":
         prepare_file(given.means, "--means FILE")
     shown = ProgressDisplay()
     signal.signal(signal.SIGTERM, raise_interrupt)
     try:
-        found = sweep(find_function(given.model), read_points(given), seeds, out=given.out, jobs=given.jobs, part=part, take=given.take,
-                      version=given.version, measure=find_measure(given.measure) if given.measure else None, progress=shown.show)
+        found = sweep(find_function(model), points, seeds, out=out, jobs=given.jobs, part=(part[0], part[1]), take=given.take,
+                      version=given.version, program=given.program, timeout=given.timeout, units=split_options("unit", given.unit),
+                      measure=find_measure(measure), named=(model, measure), progress=shown.show)
     except KeyboardInterrupt:
         shown.end()
-        print(f"the finished runs are in {given.out}: the same command continues from there", file=sys.stderr)
+        print(f"the finished runs are in {out}: the same command continues from there", file=sys.stderr)
         raise
     finally:
         shown.end()
@@ -203,9 +260,10 @@ def run_sweep(given: argparse.Namespace) -> int:
     for failure in found.failures[:NAMED]:
         print(f"failed: {failure}", file=sys.stderr)
     if len(found.failures) > NAMED:
-        print(f"and {len(found.failures) - NAMED} more: see {given.out}.failed", file=sys.stderr)
-    print(f"{len(found.rows)} runs are in {given.out}" + f", and {len(found.failures)} failed" * bool(found.failures), file=sys.stderr)
-    return 1 if found.failures else 0
+        print(f"and {len(found.failures) - NAMED} more: see {out}.failed", file=sys.stderr)
+    print(f"{len(found.rows)} runs are in {out}" + f", and {len(found.failures)} failed" * bool(found.failures), file=sys.stderr)
+    is_same = first is None or compare_tables(first, out)
+    return 1 if found.failures or not is_same else 0
 
 
 def main(words: Sequence[str] | None = None) -> int:

@@ -1,6 +1,7 @@
 """Start the program road_lab, send it commands, and return its replies as objects."""
 from __future__ import annotations
 
+import math
 import weakref
 from pathlib import Path
 from types import TracebackType
@@ -11,7 +12,7 @@ from .checks import encode_line, check_text, check_object, check_whole
 from .conversation import Conversation, Deadline
 from .grammar import LAST_HORIZON, MOST_ROWS
 from .plan import Plan
-from .programs import program_path
+from .programs import program_path, seconds_left
 from .records import Car, Count, Crowd, Edit, Head, Object, Stamp
 from .rows import Sums, Traffic, add_up
 from .wire import (CarsReply, CellsReply, CountReply, CrowdReply, EditsReply, Fields, HeadsReply, HorizonReply, PlanLine, Reply,
@@ -79,7 +80,8 @@ class RoadLab:
         return self._command(self._deadline(), verb, at, **fields)
 
     def _deadline(self) -> Deadline:
-        return self._conversation.deadline(self.timeout)
+        left = min(math.inf if self.timeout is None else self.timeout, seconds_left())
+        return self._conversation.deadline(None if left == math.inf else left)
 
     def _command(self, deadline: Deadline, verb: str, at: str | None = None, /, **fields: object) -> Reply:
         named: Fields = {} if at is None else {"at": check_text("at", at)}

@@ -7,14 +7,19 @@ The file PATH.made next to a program records its source text. `tools/prove-progr
 """
 from __future__ import annotations
 
+import contextlib
+import contextvars
 import functools
 import hashlib
 import json
+import math
 import os
 import shutil
 import sys
+import time
 from dataclasses import asdict, dataclass
 from pathlib import Path
+from typing import Iterator
 
 from .errors import LabError
 
@@ -22,6 +27,8 @@ ROOT = Path(__file__).resolve().parents[3]
 CRATES = ROOT / "crates"
 PROVED = CRATES / "road_lab" / "out" / "road_lab"
 UNPROVED = PROVED.with_name("road_lab_unproved")
+_USED: contextvars.ContextVar[Path | str | None] = contextvars.ContextVar("program", default=None)
+_UNTIL = contextvars.ContextVar("until", default=math.inf)
 PARTS = ("src", "specs", "proofs")
 """The folders of a crate that determine the program."""
 
@@ -174,9 +181,25 @@ def program_path() -> Path:
 
 
 def find_program() -> Path:
-    """Return the path of the program, as `program_path` does, without a note."""
-    given = os.environ.get("ROAD_LAB")
+    """Return the path of the program, as `program_path` does, without a note. In `using_program` it is the one given there."""
+    given = _USED.get() or os.environ.get("ROAD_LAB")
     return Path(given) if given else choose_program()
+
+
+@contextlib.contextmanager
+def using_program(path: Path | str | None, timeout: float | None = None) -> Iterator[None]:
+    """Let labs that are opened in this block use a program, unless they name one, and end their calls after `timeout` seconds in all."""
+    used, until = _USED.set(path or _USED.get()), _UNTIL.set(math.inf if timeout is None else time.monotonic() + timeout)
+    try:
+        yield
+    finally:
+        _USED.reset(used)
+        _UNTIL.reset(until)
+
+
+def seconds_left() -> float:
+    """Return the seconds that are left in the block of `using_program`, or infinity."""
+    return _UNTIL.get() - time.monotonic()
 
 
 def choose_program() -> Path:

@@ -1,15 +1,22 @@
-"""Run jobs in parallel processes. If a process dies, only its own job fails."""
+"""Run jobs in parallel processes that are forked. If a process dies or takes too long, only its own job fails.
+
+`ProcessPoolExecutor` and joblib's loky cannot do this: both break as a whole if one of their processes dies, and neither ends a job
+that takes too long, or takes a job that cannot be pickled, such as a lambda.
+"""
 from __future__ import annotations
 
 import contextlib
+import math
 import multiprocessing
 import os
 import signal
 import sys
+import time
 from collections import deque
 from multiprocessing.connection import Connection, wait
-from typing import Callable, Generator, NamedTuple, Sequence, TypeVar, cast
+from typing import Callable, Generator, NamedTuple, Sequence, TypeVar
 
+from ..program.programs import NoProgram
 
 Job = TypeVar("Job")
 
@@ -33,10 +40,12 @@ class Worker:
         self.process.start()
         end.close()
         self.job: int | None = None
+        self.until = math.inf
 
-    def begin(self, job: int) -> None:
-        """Start a job."""
+    def begin(self, job: int, timeout: float | None) -> None:
+        """Start a job, which may take `timeout` seconds."""
         self.job = job
+        self.until = math.inf if timeout is None else time.monotonic() + timeout
         with contextlib.suppress(OSError):  # (`result` then finds that the process has ended)
             self.pipe.send(job)
 
@@ -50,8 +59,15 @@ class Worker:
         except (EOFError, OSError):
             self.process.join()
             status = self.process.exitcode or 0
+            if time.monotonic() >= self.until:
+                return None if job is None else Outcome(job, None, "it took longer than its timeout")
             how = f"by {signal.Signals(-status).name}" if status < 0 else f"with status {status}"
             return None if job is None else Outcome(job, None, f"its process ended {how}")
+
+    def end_late_job(self) -> None:
+        """Kill the process if its job takes too long."""
+        if time.monotonic() >= self.until:
+            self.process.kill()
 
     def end(self) -> None:
         """End the process, even during a job."""
@@ -74,6 +90,8 @@ def serve(work: Callable[[Job], object], jobs: Sequence[Job], pipe: Connection, 
             return
         try:
             done = Outcome(job, work(jobs[job]), None)
+        except NoProgram as fault:
+            done = Outcome(job, fault, None)  # (the parent raises it: no other job can succeed)
         except Exception as fault:
             done = Outcome(job, None, f"{type(fault).__name__}: {fault}")
         try:
@@ -89,19 +107,24 @@ def count_processors() -> int:
     return len(os.sched_getaffinity(0))
 
 
-def run_in_parallel(work: Callable[[Job], object], jobs: Sequence[Job], workers: int | None = None) -> Generator[Outcome, None, None]:
+def run_in_parallel(work: Callable[[Job], object], jobs: Sequence[Job], workers: int | None = None,
+                    timeout: float | None = None) -> Generator[Outcome, None, None]:
     """Run `work(job)` for each job in `workers` processes, by default one per processor. Yield each outcome as it comes.
 
-    Results are pickled; `work` and the jobs are not. An exception in `work` and a process that dies give an `error`.
+    Results are pickled; `work` and the jobs are not. An exception in `work`, a process that dies, and a job that takes longer than
+    `timeout` seconds give an `error`. NoProgram: `work` raised it; the other jobs are ended.
     """
     team: list[Worker] = []
     waiting = deque(range(len(jobs)))
     try:
         while waiting and len(team) < (workers or count_processors()):
             team.append(Worker(work, jobs, team))
-            team[-1].begin(waiting.popleft())
+            team[-1].begin(waiting.popleft(), timeout)
         while team:
-            ready = wait([worker.pipe for worker in team])
+            left = min(worker.until for worker in team) - time.monotonic()
+            ready = wait([worker.pipe for worker in team], None if left == math.inf else max(left, 0))
+            for worker in team:
+                worker.end_late_job()
             for worker in [worker for worker in team if worker.pipe in ready]:
                 done = worker.result()
                 if worker.job is not None:  # (its process has died)
@@ -111,10 +134,12 @@ def run_in_parallel(work: Callable[[Job], object], jobs: Sequence[Job], workers:
                     worker = Worker(work, jobs, team)
                     team.append(worker)
                 if waiting:
-                    worker.begin(waiting.popleft())
+                    worker.begin(waiting.popleft(), timeout)
                 else:
                     team.remove(worker)
                     worker.end()
+                if done is not None and isinstance(done.value, NoProgram):
+                    raise done.value
                 if done is not None:
                     yield done
     finally:

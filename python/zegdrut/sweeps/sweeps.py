@@ -1,4 +1,4 @@
-"""Run a model over many points and seeds, on all processors.
+"""Run a model over many points and seeds, on all processors or by an executor.
 
     from zegdrut.sweeps import Flows, sweep
 
@@ -12,29 +12,27 @@
 """
 from __future__ import annotations
 
-import dataclasses
-import itertools
 import time
 from dataclasses import dataclass
 from pathlib import Path
-from typing import Any, Callable, Iterable, Mapping, NamedTuple, Sequence, Union, cast
+from typing import TYPE_CHECKING, Callable, Iterable, Iterator, Mapping, NamedTuple, Sequence, cast
 
 from ..figures.intervals import estimate_mean
 from ..program.errors import Fault
-from ..program.lab import RoadLab
 from ..program.plan import Plan
 from ..program.programs import program_path
+from ..program.wire import PlanLine
+from .about import About, Named, beside, describe_sweep, explain_change, find_kinds, find_name, now, read_about
 from .marks import Mark, OtherMark, Unknown, make_mark
-from .pool import run_in_parallel
-from .results import Results, Row, format_row, parse_table, to_plain, replace_file, format_cell
+from .pool import Outcome, run_in_parallel
+from .results import Column, Results, Row, Series, Value, format_cell, format_row, parse_table, read_rows, replace_file
+from .runs import Flows, Measure, Model, Points, Run, run_one, runs
+from .tables import make_dataset, make_frame, write_netcdf
 
-Model = Callable[..., Any]
-"""A function of a point's parameters, by name. It returns a `Plan`, or figures by name. Without `measure` it also gets the seed, as
-`seed`."""
-Measure = Callable[[RoadLab], Mapping[str, Any]]
-"""A function that runs a road and returns its figures by name."""
-Points = Union[Mapping[str, Iterable[Any]], Iterable[Mapping[str, Any]]]
-"""A grid, with the values of each parameter; or a list of points, with one value of each parameter."""
+if TYPE_CHECKING:
+    import pandas
+    import xarray
+
 Progress = Callable[[int, int, int, float], None]
 """A function that gets the number of runs done, of all runs and of failed runs, and the seconds left."""
 
@@ -54,12 +52,13 @@ class Failure(NamedTuple):
 class Sweep:
     """The rows of a sweep, in the order of its points and seeds, and the runs that failed.
 
-    A row has the parameters of its point, `seed`, `model` and the figures. `pandas.DataFrame(found.rows)` takes the rows.
+    A row has the parameters of its point, `seed`, `model` and the figures. `about`: what made the table; None for a sweep in memory.
     """
 
     names: list[str]
     rows: list[Row]
     failures: list[Failure]
+    about: About | None = None
 
     def means(self) -> list[Row]:
         """Return the mean of each figure over the seeds of a point, and as ± half its 95 % interval, for each point.
@@ -68,153 +67,207 @@ class Sweep:
         failed run is left out, so all means are over the same seeds.
         """
         failed = {tuple(failure.point.items()) for failure in self.failures}
-        groups: dict[tuple[tuple[str, Any], ...], list[Row]] = {}
+        groups: dict[tuple[tuple[str, Value], ...], list[Row]] = {}
         for row in self.rows:
             groups.setdefault(tuple((name, row[name]) for name in self.names), []).append(row)
-        return [{**dict(point), "seeds": len(rows), **compute_means(rows, {*self.names, "seed", "model"})}
+        return [Row([*point, ("seeds", len(rows)), *compute_means(rows, {*self.names, "seed", "model"}).items()])
                 for point, rows in groups.items() if point not in failed]
+
+    def to_pandas(self) -> pandas.DataFrame:
+        """Return the rows as a data frame. Its columns have identifiers as names, and `attrs["units"]` has their units."""
+        return make_frame(self.rows, self.about.columns if self.about else {})
+
+    def to_xarray(self) -> xarray.Dataset:
+        """Return the figures as arrays over the parameters and `seed`, with units, and with what made them as attributes."""
+        return make_dataset(self.names, self.rows, self.about)
+
+    def to_netcdf(self, path: Path | str) -> None:
+        """Write the arrays of `to_xarray` to a netCDF file."""
+        write_netcdf(self.to_xarray(), path)
 
 
 def compute_means(rows: Sequence[Row], excluded: set[str]) -> Row:
-    """Return the means of all columns except those in `excluded`, with half their intervals."""
-    found: Row = {}
+    """Return the means of all columns of numbers except those in `excluded`, with half their intervals."""
+    found = Row()
     for name in rows[0]:
         values = [row[name] for row in rows]
-        if name in excluded or any(isinstance(value, str) for value in values):
+        if name in excluded or any(isinstance(value, (str, Series)) for value in values):
             continue
-        mean, half = None, None
+        mean: Value = None
+        half: Value = None
         if None not in values:
-            mean, half = estimate_mean(values) if len(values) > 1 else (values[0], None)
+            numbers = cast(Sequence[float], values)
+            mean, half = estimate_mean(numbers) if len(numbers) > 1 else (numbers[0], None)
         found.update({name: mean, f"{name} ±": half})
     return found
 
 
-@dataclass(frozen=True)
-class Flows:
-    """A measurement of a road over the steps `first` to `to` - 1.
-
-    For each detector (with its index in the name if there are several): `flow` in cars per step, and `time-mean speed`, the mean speed
-    of the cars that pass, in cells per step. For all cells, or for `cells` (the first, and the one after the last), from all rows:
-    `density` in cars per cell, and `space-mean speed`, the mean speed of the cars on them, in cells per step.
-    """
-
-    first: int
-    to: int
-    cells: tuple[int, int] | None = None
-
-    def __call__(self, lab: RoadLab) -> Row:
-        at = lab.plan["replicas"][0]
-        lab.advance(at, self.to, self.to)
-        found: Row = {}
-        for index in range(len(lab.plan["detectors"])):
-            which = f" {index}" if len(lab.plan["detectors"]) > 1 else ""
-            count = lab.count(at, index, self.first, self.to)
-            found.update({f"flow{which}": count.flow(self.to - self.first), f"time-mean speed{which}": count.mean_speed()})
-        traffic = lab.traffic(at, self.first, self.to, self.cells)
-        return {**found, "density": traffic.density, "space-mean speed": traffic.speed}
-
-
-def make_grid(parameters: Mapping[str, Iterable[object]]) -> list[Row]:
-    """Return all points of a grid. The last parameter varies fastest."""
-    return [dict(zip(parameters, values)) for values in itertools.product(*parameters.values())]
-
-
-def list_points(points: Points) -> list[Row]:
-    """Return the points of a grid or a list, with values of Python's own types. Fault: there are none, or their parameters differ."""
-    listed = make_grid(points) if isinstance(points, Mapping) else [dict(point) for point in points]
-    if not listed:
-        raise Fault("there are no points: give at least one value of each parameter")
-    names = list(listed[0])
-    for number, point in enumerate(listed):
-        if set(point) != set(names):
-            raise Fault(f"point {number} has the parameters {' '.join(point)}, and the first one {' '.join(names)}")
-    wrong = {"seed", "model"}.intersection(names)
-    if wrong:
-        raise Fault(f"a parameter cannot be named {wrong.pop()}: this is a column of the results")
-    return [{name: to_plain(point[name]) for name in names} for point in listed]
+def load(path: Path | str) -> Sweep:
+    """Return the sweep of a table, or of the file beside it. Fault: the file beside it is missing, or it is no table."""
+    table = Path(path)
+    table = table.with_name(table.name[:-len(".json")]) if table.name.endswith(".csv.json") else table
+    if not beside(table).exists():
+        raise Fault(f"{beside(table)} is missing: it says what made {table}, and lies beside it")
+    about = read_about(beside(table))
+    rows = read_rows(table, about.columns)
+    names = list(about.points[0])
+    failed = table.with_name(table.name + ".failed")
+    failures = [Failure(Row((name, row[name]) for name in names), cast(int, row["seed"]), str(row["error"]))
+                for row in (read_rows(failed, about.columns) if failed.exists() else [])]
+    return Sweep(names, rows, failures, about)
 
 
 def sweep(model: Model, points: Points, seeds: Iterable[int] = (1,), *, measure: Measure | None = None, out: Path | str | None = None,
-          jobs: int | None = None, part: tuple[int, int] = (1, 1), take: Iterable[Path | str] = (),
-          version: str | None = None, progress: Progress | None = None) -> Sweep:
+          jobs: int | None = None, part: tuple[int, int] = (1, 1), take: Iterable[Path | str] = (), version: str | None = None,
+          program: Path | str | None = None, timeout: float | None = None, units: Mapping[str, str] | None = None,
+          named: tuple[str, Named] | None = None, progress: Progress | None = None) -> Sweep:
     """Run a model for each point and each seed, in `jobs` processes, by default one per processor.
 
     With `measure`, `model(**point)` returns a `Plan`, whose seed is replaced, and `measure(lab)` returns the figures of its road.
     Without it, `model(seed=seed, **point)` returns the figures. A run that raises an exception or dies becomes a `Failure`; the
     other runs continue.
 
-    out: a CSV file that gets a row for each run as it ends. Runs that it already has are not repeated, so after Ctrl-C or a crash the
-    same call continues. Failed runs are tried again, and are listed in the file OUT.failed in the same folder. part: (k, n): run only the
-    k-th of n parts, to share a sweep among machines. take: files of other parts, whose rows are copied first.
+    out: a CSV file that gets a row for each run as it ends; OUT.json beside it says what made it. Runs that it already has are not
+    repeated, so after Ctrl-C or a crash the same call continues. Failed runs are tried again, and are listed in the file OUT.failed in
+    the same folder. part: (k, n): run only the k-th of n parts, to share a sweep among machines. take: files of other parts, whose rows
+    are copied first. version: a string that stands for the source of the model; without it, `marks` finds what the model reaches.
+    program: the program of the runs' labs. timeout: the seconds after which a run is ended and counts as failed. units: the unit of
+    each parameter or figure; `measure.unit` gives those that are not named. named: the model and the measurement as a command names them.
 
-    Fault: there are no points or seeds, or a file has different columns.
-"""
-    listed, drawn = list_points(points), [int(seed) for seed in seeds]
-    if not drawn or not 1 <= part[0] <= part[1]:
-        raise Fault("there are no seeds: give at least one" if not drawn else f"part {part[0]} of {part[1]} does not exist")
+    Fault: there are no points or seeds, or a file has different columns. OtherMark: a file has results of another model, measurement or
+    program. Unknown: `version` is needed for a file. Nothing has been written then. NoProgram: a run needs a program, and there is none.
+    """
+    listed = runs(points, seeds)
+    if not 1 <= part[0] <= part[1]:
+        raise Fault(f"part {part[0]} of {part[1]} does not exist")
     if jobs is not None and jobs < 1:
         raise Fault(f"jobs must be 1 or more, not {jobs}")
-    names = list(listed[0])
-    mark, parts = find_mark(model, measure, version, out), [Path(path) for path in take]
-    runs = [(point, seed) for point in listed for seed in drawn]
-    keys = [[*map(format_cell, point.values()), str(seed), mark.text] for point, seed in runs]
+    names, mark = list(listed[0].point), find_mark(model, measure, version, program, out)
+    keys = [[*map(format_cell, run.point.values()), str(run.seed), mark.text] for run in listed]
     if len({tuple(key) for key in keys}) < len(keys):
         raise Fault("a point or a seed appears twice: remove one")
-    mine = range(part[0] - 1, len(runs), part[1])
-    for path in parts:
-        check_marks(parse_table(path.read_bytes(), path)[1], len(names) + 1, mark, path)
-    results = Results(out, [*names, "seed", "model"])
-    failures: dict[int, Failure] = {}
+    mine = range(part[0] - 1, len(listed), part[1])
     program_path()  # (prints the note about the program once)
+    table = Table(out, listed, measure, units or {}, mark, [Path(path) for path in take])
     try:
-        check_marks(results.rows.values(), len(names) + 1, mark, out or "")
-        results.take(parts)
-        missing = [number for number in mine if tuple(keys[number]) not in results.rows]
-        begin, ended = time.monotonic(), 0
-        for done in run_in_parallel(lambda number: run_point(model, measure, *runs[number]), missing, jobs):
+        table.describe(named or (find_name(model) or "", name_measure(measure)), list_plans(model, listed) if measure else [], part, version)
+        missing = [number for number in mine if tuple(keys[number]) not in table.results.rows]
+        failures = table.run(run_in_parallel(lambda number: run_one(model, listed[number], measure, program=program), missing, jobs, timeout),
+                             keys, missing, len(mine), progress)
+        table.end(keys, failures)
+    finally:
+        table.results.close()
+    rows = [Row({**listed[number].point, "seed": listed[number].seed, "model": mark.text, **figures})
+            for number in mine if (figures := table.results.figures(keys[number])) is not None]
+    return Sweep(names, rows, failures, table.about)
+
+
+class Table:
+    """The table of a sweep while it runs, in memory or in a file with what made it beside it."""
+
+    def __init__(self, out: Path | str | None, listed: Sequence[Run], measure: Measure | None, units: Mapping[str, str], mark: Mark,
+                 parts: Sequence[Path]) -> None:
+        """Open a file, and copy the rows of other parts. OtherMark, Fault: one of them does not fit; then nothing is written."""
+        self._out, self._listed, self._mark = None if out is None else Path(out), listed, mark
+        self._units, self._measure = units, measure
+        names = list(listed[0].point)
+        self._parameters = find_kinds([run.point for run in listed])
+        for path in parts:
+            self._check_marks(parse_table(path.read_bytes(), path)[1], len(names) + 1, path)
+        self.about: About | None = None
+        self.results = Results(out, [*names, "seed", "model"], self._kinds_of(self._out), self._write)
+        try:
+            self._check_marks(self.results.rows.values(), len(names) + 1, self._out or Path())
+            for path in parts:
+                self.results.note_kinds(self._kinds_of(path))
+            self.results.take(parts)
+        except BaseException:
+            self.results.close()
+            raise
+
+    def _check_marks(self, rows: Iterable[Sequence[str]], place: int, path: Path) -> None:
+        other = next((row[place] for row in rows if row[place] != self._mark.text), None)
+        if other is not None:
+            raise OtherMark(f"{path} has results of {other}, but the model is now {self._mark.text}{explain_change(path, self._mark)}: "
+                            "name a different file")
+
+    def _kinds_of(self, path: Path | None) -> dict[str, Column]:
+        """Return what the figures of a file hold, by the file beside it."""
+        if path is None or not beside(path).exists():
+            return {}
+        return {name: column for name, column in read_about(beside(path)).columns.items() if name not in {*self._parameters, "seed", "model"}}
+
+    def describe(self, named: tuple[str, Named], plans: list[PlanLine | None], part: tuple[int, int], version: str | None) -> None:
+        """Write what makes the table."""
+        if self._out is not None:
+            points = list({id(run.point): run.point for run in self._listed}.values())
+            seeds = list(dict.fromkeys(run.seed for run in self._listed))
+            self.about = describe_sweep(self._out, named[0] or None, named[1], points, seeds, part, self._mark, version)
+            self.about.plans = plans
+            self._write()
+
+    def _write(self) -> None:
+        if self.about is not None and self._out is not None:
+            columns = {**self._parameters, "seed": Column("number"), "model": Column("text"), **self.results.kinds}
+            self.about.columns = {name: column._replace(unit=self._unit(name)) for name, column in columns.items()}
+            self.about.write(self._out)
+
+    def _unit(self, column: str) -> str:
+        of_measure = getattr(self._measure, "unit", None)
+        known = column in {*self._parameters, "seed", "model"} or of_measure is None
+        return str(self._units.get(column, "" if known or of_measure is None else of_measure(column)))
+
+    def run(self, outcomes: Iterator[Outcome], keys: Sequence[Sequence[str]], missing: Sequence[int], whole: int,
+            progress: Progress | None) -> list[Failure]:
+        """Add the outcomes of the missing runs as they come. Return the failures, in the order of the runs."""
+        failures: dict[int, Failure] = {}
+        begin = time.monotonic()
+        for ended, done in enumerate(outcomes, 1):
             number = missing[done.job]
-            error = done.error or add_result(results, keys[number], cast(Row, done.value))
+            error = done.error or add_result(self.results, keys[number], cast(Row, done.value))
             if error:
-                failures[number] = Failure(*runs[number], error)
-            ended += 1
+                failures[number] = Failure(*self._listed[number], error)
             if progress:
                 left = (time.monotonic() - begin) / ended * (len(missing) - ended)
-                progress(len(mine) - len(missing) + ended, len(mine), len(failures), left)
-        results.sort(keys)
-        if out is not None:
-            list_failures(Path(out), names, [failures[number] for number in sorted(failures)])
-    finally:
-        results.close()
-    rows = [{**runs[number][0], "seed": runs[number][1], "model": mark.text, **figures}
-            for number in mine if (figures := results.figures(keys[number])) is not None]
-    return Sweep(names, rows, [failures[number] for number in sorted(failures)])
+                progress(whole - len(missing) + ended, whole, len(failures), left)
+        return [failures[number] for number in sorted(failures)]
+
+    def end(self, keys: Sequence[Sequence[str]], failures: Sequence[Failure]) -> None:
+        """Sort the rows, list the failures, and note the end."""
+        self.results.sort(keys)
+        if self._out is not None and self.about is not None:
+            list_failures(self._out, list(self._parameters), failures)
+            self.about.ended = now()
+            self._write()
 
 
-def find_mark(model: Model, measure: Measure | None, version: str | None, out: Path | str | None) -> Mark:
+def name_measure(measure: Measure | None) -> Named:
+    """Return how the file beside a table names a measurement; None if it has no name."""
+    if isinstance(measure, Flows):
+        return {"flows": [measure.first, measure.to, None if measure.cells is None else list(measure.cells)]}
+    return find_name(measure)
+
+
+def list_plans(model: Model, listed: Sequence[Run]) -> list[PlanLine | None]:
+    """Return the plan of each point, or None for a point whose model fails."""
+    found: list[PlanLine | None] = []
+    for point in {id(run.point): run.point for run in listed}.values():
+        try:
+            plan = model(**point)
+            found.append(plan.to_line() if isinstance(plan, Plan) else None)
+        except Exception:  # (its run then fails, too, and says why)
+            found.append(None)
+    return found
+
+
+def find_mark(model: Model, measure: Measure | None, version: str | None, program: Path | str | None, out: Path | str | None) -> Mark:
     """Return the mark of a sweep. Without a table, a model that cannot be recognised has one, too. Unknown: `version` is needed."""
     try:
-        return make_mark(model, measure, version)
+        return make_mark(model, measure, version, program)
     except Unknown:
         if out is not None:
             raise
         return Mark(f"{getattr(model, '__name__', type(model).__name__)}-unknown", {})
-
-
-def run_point(model: Model, measure: Measure | None, point: Row, seed: int) -> Row:
-    """Run a point with a seed. Return its figures. Fault: the model returns something else."""
-    if measure is None:
-        found = model(**point, seed=seed)
-        if isinstance(found, Plan):
-            raise Fault("the model returns a plan: give `measure` (--measure) to measure it")
-    else:
-        plan = model(**point)
-        if not isinstance(plan, Plan):
-            raise Fault(f"the model returns {type(plan).__name__}, not a Plan, which `measure` needs")
-        with RoadLab(dataclasses.replace(plan, words=seed)) as lab:
-            found = measure(lab)
-    if not isinstance(found, Mapping) or not found:
-        raise Fault(f"it returns {found!r}, but a run must return a dictionary with at least one figure")
-    return {str(name): to_plain(value) for name, value in found.items()}
 
 
 def add_result(results: Results, key: Sequence[str], figures: Row) -> str | None:
@@ -224,13 +277,6 @@ def add_result(results: Results, key: Sequence[str], figures: Row) -> str | None
         return None
     except (Fault, TypeError) as fault:
         return f"{type(fault).__name__}: {fault}"
-
-
-def check_marks(rows: Iterable[Sequence[str]], place: int, mark: Mark, path: Path | str) -> None:
-    """Check that all rows of a table have this mark in their column `place`. OtherMark: some do not."""
-    other = next((row[place] for row in rows if row[place] != mark.text), None)
-    if other is not None:
-        raise OtherMark(f"{path} has results of {other}, but the model is now {mark.text}: name a different file")
 
 
 def list_failures(out: Path, names: Sequence[str], failures: Sequence[Failure]) -> None:
