@@ -15,7 +15,7 @@ ROWS = ["0..2.#", "9.1..."]
 ALL_ROWS = '''
 from zegdrut import Plan, RoadLab
 for length, to in ((60, 2_500), (8_192, 700)):
-    plan = Plan(length=length, inlets=[(0, 30_000), (length // 2, 60_000)], zones=[(4, 9_000)])
+    plan = Plan(length=length, inlets=[(0, 30_000), (length // 2, 60_000)], zones=[(9, 2_000)])
     with RoadLab(plan) as lab:
         lab.edit("A", ("block", length - 5), 100, 1)
         lab.advance("A", to)
