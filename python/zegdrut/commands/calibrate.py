@@ -1,12 +1,14 @@
 """Fit the slowing chance, the slow-to-start chance and a demand factor to measured counts and speeds.
 
-    python3 -m zegdrut calibrate ROAD.json COUNTS.csv [--stations TABLE.csv] [--bounds FILE] [--points N] [--out FOLDER]
+    python3 -m zegdrut calibrate ROAD.json COUNTS.csv [--stations TABLE.csv] [--fit DATE,.. --check DATE,..] [--bounds FILE] [--out FOLDER]
 
 ROAD.json and COUNTS.csv are as `zegdrut measured` reads them. The bounds are {"slowing": [0, 0.4], "start": [0, 0.7], "factor":
-[0.9, 1.1]}, or those of a JSON file. Several rounds of points are simulated in parallel on all processors, each point over some days.
-On a terminal it shows the progress and the best point; to a log it writes a line every ten seconds.
+[0.9, 1.1]}, or those of a JSON file. Each limit around the measured free speed is searched, or those within the bounds "limit". Several
+rounds of points are simulated in parallel on all processors, each point over some days. With --fit the errors are means over these days
+of COUNTS.csv, and the spread between the days is shown; with --check the result is compared with other days. On a terminal it shows the
+progress and the best point; to a log it writes a line every ten seconds.
 
-It prints the result and the ten best points. It writes calibrated-NAME.json (ROAD.json with the fitted drivers, and the measured demand
+It prints the result, the terms of its error and the ten best points. It writes calibrated-NAME.json (ROAD.json with the fitted drivers, and the measured demand
 of the main road and of the ramps times the fitted factor), tried-NAME.csv (all points with their errors) and surface-NAME.svg (a picture
 of the errors). zegdrut/measurements/calibration.py defines the error. An error of about 2 is as good as chance allows. The command warns if the
 smallest error is above 5, and if a result is within 5 % of the bounds of its range.
@@ -15,14 +17,17 @@ from __future__ import annotations
 
 import argparse
 import dataclasses
+import datetime
 import json
 import math
 import shlex
+import statistics
 import sys
 from pathlib import Path
 from typing import Sequence
 
-from ..measurements.calibration import NAMES, Bounds, Calibration, Point, Search, Trial, apply_point, calibrate, is_congested, make_calibrated
+from ..measurements.calibration import (DELAY_UNCERTAINTY, NAMES, TERMS, TOTAL_UNCERTAINTY, Bounds, Calibration, MeasuredDay, Misfit, Point, Search,
+                                        Trial, apply_point, calibrate, is_congested, list_limits, make_calibrated)
 from ..measurements.comparison import compare_hours, make_model, with_measured_demand
 from ..measurements.congestion import list_segments, simulate_segments
 from ..measurements.measured import Measured
@@ -34,7 +39,8 @@ from ..reports.pictures import draw_points, stack_drawings
 from ..roads.demand import BeyondCapacity
 from ..roads.freeway import Figures, make_road, measure_chances
 from ..roads.freeway_files import write_road
-from .measured import (Congestion, add_congestion_argument, add_data_arguments, check_congested, format_shares, print_lines, read_data,
+from ..roads.units import count_things
+from .measured import (Congestion, add_congestion_argument, add_data_arguments, check_congested, format_shares, print_lines, read_days,
                        report_progress)
 
 
@@ -53,18 +59,59 @@ NEAR_BOUND = 0.05
 QUANTITIES = ("slowing chance", "slow-to-start chance", "demand factor")
 
 
+LARGE_TERM = 3.0
+"""A term of an error above this is far from what chance makes, about 1."""
+
+
+def find_mean_misfit(found: Calibration) -> Misfit | None:
+    """Return the mean over the measured days of the misfit of the best trial."""
+    days = found.best_ten()[0].by_day
+    if not days:
+        return None
+    means = [statistics.mean(one.terms[place] for one in days) for place in range(len(TERMS))]
+    return Misfit(statistics.mean(one.error for one in days), statistics.mean(one.ratio for one in days), tuple(means),
+                  statistics.mean(one.free_speed for one in days), statistics.mean(one.delay for one in days))
+
+
+def describe_terms(misfit: Misfit, limit: float) -> list[str]:
+    """Return a sentence for each term of the error that chance does not explain."""
+    off = 1 / misfit.ratio - 1
+    details = (f"the simulation has {100 * abs(off):.1f} % {'more' if off > 0 else 'fewer'} cars" if abs(off) > TOTAL_UNCERTAINTY else
+               "the totals of the stations do not fit each other",
+               f"the simulated free speed is {abs(misfit.free_speed):.1f} km/h too {'high' if misfit.free_speed > 0 else 'low'} with the limit "
+               f"{limit:g} km/h", f"the simulated delay is {math.exp(misfit.delay):.2f} times the measured one", "", "")
+    return [f"the error is large in its term {name!r} ({value:.1f})" + (f": {detail}" if detail else "")
+            for name, value, detail in zip(TERMS, misfit.terms, details) if value > LARGE_TERM]
+
+
+def explain_bound(name: str, is_upper: bool, misfit: Misfit, limit: float) -> str:
+    """Return why a result stands at a bound, or an empty string: even there the simulation differs from the counts."""
+    if name == "slowing" and (misfit.free_speed > 0) is is_upper and abs(misfit.free_speed) > 1:
+        return (f"even so the free speed is {abs(misfit.free_speed):.1f} km/h too {'high' if is_upper else 'low'}, since the limit {limit:g} km/h is too "
+                f"{'high' if is_upper else 'low'}")
+    if name == "start" and (misfit.delay < 0) is is_upper and abs(misfit.delay) > DELAY_UNCERTAINTY:
+        return f"even so there is {'less' if is_upper else 'more'} delay than measured"
+    if name == "factor" and (misfit.ratio > 1) is is_upper and abs(misfit.ratio - 1) > TOTAL_UNCERTAINTY:
+        return f"even so there are {'fewer' if is_upper else 'more'} cars than measured"
+    return ""
+
+
 def list_warnings(found: Calibration, bounds: Bounds) -> list[str]:
-    """Return a sentence if the road fits the counts badly, and for each result at or near the bound of its range."""
+    """Return a sentence if the road fits the counts badly, for each large term of the error, and for each result at or near the bound of
+    its range."""
     warnings = []
     least = min(one.error for one in found.best_ten())
+    misfit = find_mean_misfit(found)
     if least > MOST_ERROR:
         warnings.append(f"the smallest error is {least:.1f}, but about {CHANCE_ERROR} is as good as chance allows: the calibrated road does "
                         f"not fit these counts. Compare it with them before you use it, and check the counts and the road")
-    for quantity, name, value, (low, high) in zip(QUANTITIES, NAMES, found.best, bounds):
+    warnings += describe_terms(misfit, found.limit) if misfit is not None else []
+    for quantity, name, value, (low, high) in zip(QUANTITIES, NAMES, found.best, bounds[:3]):
         bound = low if value - low < high - value else high
         if low < high and abs(value - bound) <= NEAR_BOUND * (high - low):
             can_widen = bound > 0 if name == "factor" else 0 < bound < 1
-            warnings.append(f"the {quantity} of {value:.3f} is at or near the bound {bound:g} of its range, {low:g} to {high:g}: "
+            why = "" if misfit is None else explain_bound(name, bound == high, misfit, found.limit)
+            warnings.append(f"the {quantity} of {value:.3f} is at or near the bound {bound:g} of its range, {low:g} to {high:g}: " + (why and f"{why}; ")
                             + (f'a value outside may fit better. Widen "{name}" by --bounds FILE' if can_widen else "no value beyond it is possible"))
     return warnings
 
@@ -77,7 +124,18 @@ def read_arguments(words: Sequence[str] | None) -> argparse.Namespace:
     parser.add_argument("--bounds", type=Path, metavar="FILE", help="a JSON file with the bounds of slowing, start and factor")
     parser.add_argument("--points", type=int, default=Search.points, metavar="N", help="points per round, 10 or more (default: %(default)s)")
     parser.add_argument("--days", type=int, default=Search.days, metavar="N", help="simulated days per point (default: %(default)s)")
+    parser.add_argument("--fit", type=read_dates, default=[], metavar="DATE,..", help="fit to these days of the counts (default: the date of the road)")
+    parser.add_argument("--check", type=read_dates, default=[], metavar="DATE,..", help="compare the result with these days of the counts")
+    parser.add_argument("--jobs", type=int, metavar="N", help="processes (default: one for each processor)")
     return parser.parse_args(words)
+
+
+def read_dates(text: str) -> list[str]:
+    """Read dates such as 2026-03-02,2026-03-03. ArgumentTypeError: one of them is not a date."""
+    try:
+        return [datetime.date.fromisoformat(one).isoformat() for one in text.split(",")]
+    except ValueError as fault:
+        raise argparse.ArgumentTypeError(f"write dates such as 2026-03-02,2026-03-03: {fault}") from None
 
 
 def read_bounds(path: Path | None) -> Bounds:
@@ -102,6 +160,19 @@ def format_trials(tried: Sequence[Trial]) -> list[str]:
         f"{one.round},{one.point.slowing:.4f},{one.point.start:.4f},{one.point.factor:.4f},{one.error:.4f}" for one in tried]
 
 
+def format_terms(found: Calibration) -> list[str]:
+    """Return the terms of the smallest error as the lines of a table. By chance each is about 1 or less."""
+    misfit = find_mean_misfit(found)
+    return [] if misfit is None else ["term of the smallest error,value", *(f"{name},{value:.2f}" for name, value in zip(TERMS, misfit.terms))]
+
+
+def format_days(days: Sequence[MeasuredDay], found: Calibration) -> list[str]:
+    """Return the result of each measured day alone, and the standard deviation between the days, as the lines of a table."""
+    rows = ["day," + ",".join(QUANTITIES)]
+    rows += [f"{day.clock.date}," + ",".join(f"{value:.3f}" for value in point) for (_, day), point in zip(days, found.of_days)]
+    return [*rows, "spread between days," + ",".join(f"{statistics.stdev(values):.3f}" for values in zip(*found.of_days))]
+
+
 def draw_surface(found: Calibration) -> str:
     """Return the errors over slowing and slow-to-start, and over slowing and factor, as SVG."""
     known = [one for one in found.tried if math.isfinite(one.error)]
@@ -118,29 +189,41 @@ def run_calibration(given: argparse.Namespace, out: Path) -> None:
     """Read the data, search, and write the results."""
     if given.points < 10 or given.days < 1:
         raise Fault("--points must be 10 or more, and --days 1 or more")
+    if given.jobs is not None and given.jobs < 1:
+        raise Fault(f"--jobs must be 1 or more, not {given.jobs}")
     check_congested(given.congested)
     bounds = read_bounds(given.bounds)
-    figures, measured = read_data(given)
+    days, checked = read_days(given, given.fit), read_days(given, given.check) if given.check else []
+    figures, measured = days[0]
     name, folder = given.road.stem, given.out or out / given.road.stem
     prepare_folder(folder)
-    print_lines(measured.notes)
+    for _, day in (*days, *checked):
+        print_lines(day.notes)
     search = dataclasses.replace(Search(), points=given.points, days=given.days, elite=max(given.points // 4, 4))
     point = Point(figures.slowing, figures.start or 0.0, 1.0)
-    print_lines([*make_road(make_calibrated(figures, measured, point)).notes, *with_measured_demand(figures, measured)[1]])
+    for road, day in days:
+        print_lines([*make_road(make_calibrated(road, day, point)).notes, *with_measured_demand(road, day)[1]])
     if given.points < Search.points or given.days < Search.days:
         print_lines([SHORT_SEARCH])
-    if not is_congested(measured):
+    if not any(is_congested(day) for _, day in days):
         print_lines([NO_CONGESTION])
     program_path()  # (its note is printed here, and not by each process)
-    report_progress(f"trying {search.total} points")
+    limits = list_limits(figures, [day for _, day in days], bounds)
+    report_progress(f"trying {search.total} points with the {count_things(len(limits), 'limit')} {', '.join(f'{one:g}' for one in limits)} km/h")
     bar = Bar("points", in_log=True)
-    found = calibrate(given.road.stem, figures, measured, bounds, search, lambda done, total, best: bar.show(done, total, describe_best(best)))
+    found = calibrate(given.road.stem, days, bounds, search, lambda done, total, best: bar.show(done, total, describe_best(best)), given.jobs)
     bar.end()
+    days, checked = ([(dataclasses.replace(one, limit=found.limit), day) for one, day in each] for each in (days, checked))
+    figures, measured = days[0]
     if not found.is_fitted:
         print_lines([NO_MINIMUM])
     print("quantity,found,spread of the best points")
     for quantity, value, spread in zip(QUANTITIES, found.best, found.spread):
         print(f"{quantity},{value:.3f},{spread:.3f}")
+    print(f"limit,{found.limit:g} km/h,{' or '.join(f'{one:g}' for one in limits)} km/h tried")
+    print("\n" + "\n".join(format_terms(found)))
+    if len(days) > 1:
+        print("\n" + "\n".join(format_days(days, found)))
     print("\n" + "\n".join(format_trials(found.best_ten())))
     print_lines(list_warnings(found, bounds))
     best = found.best._replace(slowing=round(found.best.slowing, 4), start=round(found.best.start, 4))
@@ -149,7 +232,9 @@ def run_calibration(given: argparse.Namespace, out: Path) -> None:
     (folder / f"tried-{name}.csv").write_text("".join(f"{line}\n" for line in format_trials(found.tried)), encoding="utf-8")
     (folder / f"surface-{name}.svg").write_text(draw_surface(found), encoding="utf-8")
     if check_admission(calibrated):
-        print_lines(["", *compare_calibrated(given, figures, measured, best)])
+        for what, each in (("fitted", days), ("checked", checked)):
+            for road, day in each:
+                print_lines(["", f"{what}: {day.clock.date or 'the counts'}", *compare_calibrated(given, road, day, best)])
     more = "".join(f" {word}" for word in list_count_words(given))
     print(f"The calibrated road, the points and the picture are in {folder}. Compare the road with its counts by "
           f"`recipes/measured/run {folder / f'calibrated-{name}.json'} {given.counts}{more} --demand road`", file=sys.stderr)

@@ -122,12 +122,32 @@ def read_factors(given: list[str]) -> dict[str, float]:
 
 def read_data(given: argparse.Namespace) -> tuple[Figures, Measured]:
     """Read the road and its counts, and check that they fit. Fault: one of them is invalid."""
+    return read_day(given, FIGURES.override(given.road))
+
+
+def read_days(given: argparse.Namespace, dates: Sequence[str]) -> list[tuple[Figures, Measured]]:
+    """Read the road and its counts on each of some dates, or on the date of the road if there are none. Fault: one of them is invalid."""
     figures = FIGURES.override(given.road)
+    return [read_day(given, dataclasses.replace(figures, date=date)) for date in dates] or [read_day(given, figures)]
+
+
+def list_dates(figures: Figures) -> list[datetime.date] | None:
+    """Return the dates of the window, or None if the road has no date."""
+    first = figures.clock.date
+    if first is None:
+        return None
+    return [first + datetime.timedelta(days=day) for day in range((figures.clock.begin + round(figures.minutes * 60)) // 86_400 + 1)]
+
+
+def read_day(given: argparse.Namespace, figures: Figures) -> tuple[Figures, Measured]:
+    """Read the counts of a road, and check that they fit. Fault: one of them is invalid."""
     if figures.begin is None:
         raise Fault(f'{given.road} has no begin: add the clock time at which the window begins, such as "begin": "06:30"')
     table = read_stations(given.stations) if given.stations else None
     counts = read_counts(given.counts, table, read_pairs(given.column, "column", "speed=v_mean", list(HEADERS)),
-                         read_pairs(given.unit, "unit", "speed=mph", ["speed"]))
+                         read_pairs(given.unit, "unit", "speed=mph", ["speed"]), list_dates(figures))
+    if not counts.rows:
+        raise Fault(f"{given.counts} has no row of {figures.date}: change the date")
     counts = correct_counts(counts, given.leave_out, read_factors(given.scale))
     figures = with_date_of(figures, counts)
     measured = put_on_road(counts, figures.clock, round(figures.minutes * 60), given.origin, given.reverse, not given.no_ramp_check)

@@ -1,7 +1,10 @@
-"""Fit the slowing chance, the slow-to-start chance and a demand factor to measured counts and speeds.
+"""Fit the limit, the slowing chance, the slow-to-start chance and a demand factor to measured counts and speeds.
 
-    found = calibrate("I-10", figures, measured, Bounds(), Search())
-    found.best.slowing, found.best.start, found.best.factor
+    found = calibrate("I-10", [(figures, measured)], Bounds(), Search())
+    found.limit, found.best.slowing, found.best.start, found.best.factor
+
+The limits of the model are multiples of 27 km/h. Those just below and above the measured free speed and the one of the road are each
+searched, and the one with the smallest error is taken. With several measured days the error of a point is the mean over the days.
 
 The total number of cars is proportional to the demand factor. After each round the factor is corrected by the ratio of measured to
 simulated totals of the best points. The two chances are found by the cross-entropy method (Rubinstein, Methodol. Comput. Appl. Probab. 1
@@ -14,8 +17,8 @@ The error of a point is a sum of squares. Each is the deviation of a quantity th
 of its uncertainty:
 
 - totals, for the demand factor: the cars of each station in the whole window, to 0.5 %, averaged over the stations;
-- free speed, for the slowing chance: the mean difference of speeds if both are free (at most 10 km/h below the station's highest
-  measured speed), to 0.3 km/h;
+- free speed, for the slowing chance: the median difference of speeds in the intervals that are free by the measured speed (at most
+  10 km/h below the station's highest one), to 0.3 km/h;
 - delay, for slow-to-start: cars times seconds per km above the free travel time, summed over stations and intervals. It grows fast with
   slow-to-start and varies widely from day to day, so its logarithm is compared, to 0.5;
 - half the mean of (simulated - measured)^2 over stations and intervals: for flows divided by the measured cars, for speeds divided
@@ -29,6 +32,7 @@ from __future__ import annotations
 import dataclasses
 import math
 import random
+import statistics
 from concurrent.futures import ProcessPoolExecutor, as_completed
 from dataclasses import dataclass
 from typing import Callable, NamedTuple, Sequence
@@ -37,11 +41,14 @@ from ..program.errors import Fault, LabError
 from ..roads import demand
 from ..roads.demand import QUICK, BeyondCapacity, count_demand, thread_count
 from ..roads.freeway import ENTRY, Figures
-from ..roads.units import HOUR, KMH
+from ..roads.units import HOUR, KMH, to_limit
 from .comparison import Day, Model, make_model, simulate_day, with_measured_demand, with_stations
+from .congestion import find_free_speed
 from .measured import Measured
 
 NAMES = ("slowing", "start", "factor")
+MeasuredDay = tuple[Figures, Measured]
+"""The figures of the road on a measured day, and its counts."""
 
 
 class Point(NamedTuple):
@@ -53,21 +60,25 @@ class Point(NamedTuple):
 
 
 class Bounds(NamedTuple):
-    """The smallest and the largest value of each parameter."""
+    """The smallest and the largest value of each parameter, and of the limit in km/h (None: the limits around the free speed)."""
 
     slowing: tuple[float, float] = (0.0, 0.4)
     start: tuple[float, float] = (0.0, 0.7)
     factor: tuple[float, float] = (0.9, 1.1)
+    limit: tuple[float, float] | None = None
 
     @classmethod
     def read(cls, given: object, where: str) -> Bounds:
         """Read bounds from a JSON object such as {"slowing": [0, 0.4]}. Fault: one of them is invalid."""
-        if not isinstance(given, dict) or set(given) - set(NAMES):
-            raise Fault(f"{where}: bounds must be an object of {', '.join(NAMES)}, each [smallest, largest]")
+        if not isinstance(given, dict) or set(given) - {*NAMES, "limit"}:
+            raise Fault(f"{where}: bounds must be an object of {', '.join(NAMES)} and limit, each [smallest, largest]")
         for name, pair in given.items():
             numbers = isinstance(pair, list) and len(pair) == 2 and all(isinstance(one, (int, float)) for one in pair)
-            if not numbers or not 0 <= pair[0] <= pair[1] or name != "factor" and pair[1] > 1:
-                raise Fault(f"{where}: bounds: {name}: {pair} must be [smallest, largest]" + " from 0 to 1" * (name != "factor"))
+            is_chance = name in ("slowing", "start")
+            if not numbers or not 0 <= pair[0] <= pair[1] or is_chance and pair[1] > 1:
+                raise Fault(f"{where}: bounds: {name}: {pair} must be [smallest, largest]" + " from 0 to 1" * is_chance)
+            if name == "limit" and not list_multiples(*pair):
+                raise Fault(f"{where}: bounds: limit: no multiple of {KMH:g} km/h from {KMH:g} to {MOST_LIMIT * KMH:g} km/h is within {pair}")
         return cls(**{name: (float(low), float(high)) for name, (low, high) in given.items()})
 
 
@@ -90,8 +101,22 @@ class Search:
         return self.first_points + (self.rounds - 1) * self.points
 
 
+class Misfit(NamedTuple):
+    """The error of a point on a measured day, its five terms, and what they are about: the ratio of measured to simulated cars in total,
+    simulated minus measured free speed in km/h, and the logarithm of simulated by measured delay."""
+
+    error: float
+    ratio: float = 1.0
+    terms: tuple[float, ...] = ()
+    free_speed: float = 0.0
+    delay: float = 0.0
+
+
+TERMS = ("total of cars", "free speed", "delay", "flows of intervals", "speeds of intervals")
+
+
 class Trial(NamedTuple):
-    """A point, its error, its round, and the ratio of measured to simulated cars in total.
+    """A point, its error, its round, the ratio of measured to simulated cars in total, and its misfit on each measured day.
 
     The error is infinite if the demand exceeds the capacity."""
 
@@ -99,6 +124,7 @@ class Trial(NamedTuple):
     error: float
     round: int
     ratio: float = 1.0
+    by_day: tuple[Misfit, ...] = ()
 
 
 @dataclass(frozen=True)
@@ -108,8 +134,17 @@ class Calibration:
     best: Point
     spread: Point
     tried: list[Trial]
+    limit: float
+    """The limit in km/h."""
     is_fitted: bool = True
     """Whether the best point is the minimum of a quadratic. Otherwise it is the mean of the elites, which is less accurate."""
+    of_days: tuple[Point, ...] = ()
+    """The result of each measured day alone, from the same trials."""
+
+    @property
+    def least_error(self) -> float:
+        """Return the smallest error after the first round."""
+        return min((one.error for one in self.tried if one.round), default=math.inf)
 
     def best_ten(self) -> list[Trial]:
         """Return the ten trials with the smallest errors after the first round."""
@@ -135,10 +170,29 @@ FREE = 10.0
 """Traffic is free down to this many km/h below the highest measured speed of a station."""
 LEAST_DELAY = 1_000.0
 """Seconds per km, summed over all cars, that do not count as a delay."""
+MOST_LIMIT = 5
+"""The highest limit that is searched, in cells per step."""
 
 
-def compute_error(model: Model, days: Sequence[Day], scales: Sequence[float]) -> tuple[float, float]:
-    """Return the error of a model's days, and the ratio of measured to simulated cars. `scales` are demand / admitted cars of each day."""
+def list_multiples(low: float, high: float) -> list[float]:
+    """Return the limits of the model from one speed to another, in km/h."""
+    return [cells * KMH for cells in range(1, MOST_LIMIT + 1) if low <= cells * KMH <= high]
+
+
+def list_limits(figures: Figures, measured: Sequence[Measured], bounds: Bounds) -> list[float]:
+    """Return the limits to search in km/h: those within the bounds, or by default those just below and above the measured free speed,
+    and the one of the road."""
+    if bounds.limit is not None:
+        return list_multiples(*bounds.limit)
+    free = max((find_free_speed(one) or 0.0 for day in measured for one in day.main[1:]), default=0.0)
+    if not free:
+        return [figures.limit]
+    around = {max(math.floor(free / KMH), 1), math.ceil(free / KMH), to_limit(figures.limit)}
+    return [cells * KMH for cells in sorted(around) if cells <= MOST_LIMIT]
+
+
+def compute_misfit(model: Model, days: Sequence[Day], scales: Sequence[float]) -> Misfit:
+    """Return the misfit of a model's days to its measured day. `scales` are demand / admitted cars of each simulated day."""
     flows, speeds, totals, free_speeds = list[float](), list[float](), list[float](), list[float]()
     delays, ratios = [0.0, 0.0], list[float]()
     for index, series in enumerate(model.measured.main[1:]):
@@ -155,7 +209,7 @@ def compute_error(model: Model, days: Sequence[Day], scales: Sequence[float]) ->
                 continue
             mean = math.fsum(one.speeds / one.cars * KMH for one in known) / len(known)
             speeds.append((mean - measured) ** 2 / (1 + 0.5 * max(free - measured, free - mean, 0.0)) ** 2)
-            if min(mean, measured) > free - FREE:
+            if measured > free - FREE:
                 free_speeds.append(mean - measured)
             delays[0] += math.fsum(one.cars * excess_seconds_per_km(one.speeds / one.cars * KMH, free) for one in known) / len(days)
             delays[1] += cars * excess_seconds_per_km(measured, free)
@@ -163,9 +217,9 @@ def compute_error(model: Model, days: Sequence[Day], scales: Sequence[float]) ->
             totals.append(((total[0] / total[1] - 1) / TOTAL_UNCERTAINTY) ** 2)
             ratios.append(total[1] / max(total[0], 1.0))
     delay = math.log((delays[0] + LEAST_DELAY) / (delays[1] + LEAST_DELAY)) / DELAY_UNCERTAINTY
-    error = (mean_or_zero(totals) + (mean_or_zero(free_speeds) / SPEED_UNCERTAINTY) ** 2 + delay ** 2
-             + (mean_or_zero(flows) + mean_or_zero(speeds)) / 2)
-    return error, mean_or_zero(ratios) or 1.0
+    off = statistics.median(free_speeds) if free_speeds else 0.0
+    terms = (mean_or_zero(totals), (off / SPEED_UNCERTAINTY) ** 2, delay ** 2, mean_or_zero(flows) / 2, mean_or_zero(speeds) / 2)
+    return Misfit(math.fsum(terms), mean_or_zero(ratios) or 1.0, terms, off, delay * DELAY_UNCERTAINTY)
 
 
 def is_congested(measured: Measured) -> bool:
@@ -187,21 +241,26 @@ def mean_or_zero(values: Sequence[float]) -> float:
     return math.fsum(values) / len(values) if values else 0.0
 
 
-def evaluate(name: str, figures: Figures, measured: Measured, point: Point, seeds: Sequence[int]) -> tuple[float, float]:
-    """Simulate a point on the days of some seeds. Return its error and the ratio of measured to simulated cars.
+def evaluate(name: str, days: Sequence[MeasuredDay], point: Point, seeds: Sequence[int]) -> list[Misfit]:
+    """Simulate a point on the days of some seeds, with the demand of each measured day. Return its misfit to each measured day."""
+    return [evaluate_day(name, figures, measured, point, seeds) for figures, measured in days]
+
+
+def evaluate_day(name: str, figures: Figures, measured: Measured, point: Point, seeds: Sequence[int]) -> Misfit:
+    """Simulate a point on the days of some seeds. Return its misfit to a measured day.
 
     The error is infinite if a demand exceeds the capacity of its inlet."""
     try:
         model = make_model(name, apply_point(figures, point), measured, point.factor, QUICK)
     except BeyondCapacity:
-        return math.inf, 1.0
+        return Misfit(math.inf)
     asked = math.fsum(count_demand(rates, 0, model.road.steps) for _, rates in model.road.inlets)
     days, scales = [], []
     for seed in seeds:
         day, _, admitted = simulate_day(model, seed, with_entries=True)
         days.append(day)
         scales.append(min(max(asked / max(admitted, 1), 0.95), 1.05))
-    return compute_error(model, days, scales)
+    return compute_misfit(model, days, scales)
 
 
 # The search
@@ -277,7 +336,7 @@ def fit_minimum(bounds: Bounds, tried: Sequence[Trial]) -> tuple[float, float] |
     if place is None or max(abs(one) for one in place) > 2:  # no further than two spreads from the mean
         return None
     x, y = (mean + spread * value for value, mean, spread in zip(place, mean_point, spreads))
-    return (x, y) if all(low <= value <= high for value, (low, high) in zip((x, y), bounds)) else None
+    return (x, y) if all(low <= value <= high for value, (low, high) in zip((x, y), bounds[:2])) else None
 
 
 def solve(matrix: Sequence[Sequence[float]], rhs: Sequence[float]) -> list[float] | None:
@@ -301,17 +360,42 @@ def use_one_thread() -> None:
     demand.MOST_THREADS = 1
 
 
-def calibrate(name: str, figures: Figures, measured: Measured, bounds: Bounds = Bounds(), search: Search = Search(),
-              progress: Callable[[int, int, Trial], None] = lambda done, total, best: None) -> Calibration:
-    """Fit the three parameters to the counts and speeds of a road, on all processors.
+def calibrate(name: str, days: Sequence[MeasuredDay], bounds: Bounds = Bounds(), search: Search = Search(),
+              progress: Callable[[int, int, Trial], None] = lambda done, total, best: None, jobs: int | None = None) -> Calibration:
+    """Fit the parameters to the counts and speeds of a road: search each limit, and return the calibration with the smallest error.
 
+    days: the figures of the road and the counts of each measured day. jobs: processes; None: one for each processor.
     progress: gets the number of points tried, the number of all points, and the best trial of the round.
 
-    Fault: no point within the bounds admits the demand, or the road cannot be made."""
+    Fault: no point within the bounds admits the demand at any limit, or the road cannot be made."""
+    limits = list_limits(days[0][0], [measured for _, measured in days], bounds)
+    total, found = search.total * len(limits), list[Calibration]()
+    faults = list[Fault]()
+    for place, limit in enumerate(limits):
+        limited = [(dataclasses.replace(figures, limit=limit), measured) for figures, measured in days]
+
+        def tell(done: int, best: Trial, before: int = place * search.total) -> None:
+            progress(before + done, total, best)
+        try:
+            found.append(calibrate_limit(name, limited, bounds, search, tell, jobs))
+        except BeyondBounds as fault:
+            faults.append(fault)
+    if not found:
+        raise faults[0]
+    return min(found, key=lambda one: one.least_error)
+
+
+class BeyondBounds(Fault):
+    """No point within the bounds admits the demand."""
+
+
+def calibrate_limit(name: str, measured_days: Sequence[MeasuredDay], bounds: Bounds, search: Search, progress: Callable[[int, Trial], None],
+                    jobs: int | None) -> Calibration:
+    """Fit the two chances and the demand factor at one limit. BeyondBounds: no point within the bounds admits the demand."""
     rng = random.Random(search.seed)
     tried: list[Trial] = []
     elites: list[list[Trial]] = []
-    with ProcessPoolExecutor(thread_count(), initializer=use_one_thread) as pool:
+    with ProcessPoolExecutor(jobs or thread_count(), initializer=use_one_thread) as pool:
         try:
             factor = min(max(1.0, bounds.factor[0]), bounds.factor[1])
             for number in range(search.rounds):
@@ -319,16 +403,16 @@ def calibrate(name: str, figures: Figures, measured: Measured, bounds: Bounds = 
                           else draw_first_points(bounds, factor, search.first_points))
                 days = search.days if number else search.first_days
                 seeds = range(10_000 * (number + 1), 10_000 * (number + 1) + days)
-                running = {pool.submit(evaluate, name, figures, measured, point, seeds): point for point in points}
+                running = {pool.submit(evaluate, name, measured_days, point, seeds): point for point in points}
                 found: list[Trial] = []
                 for ended in as_completed(running):
-                    error, ratio = ended.result()
-                    found.append(Trial(running[ended], error, number, ratio))
-                    progress(len(tried) + len(found), search.total, min(found, key=lambda one: one.error))
+                    found.append(make_trial(running[ended], number, ended.result()))
+                    progress(len(tried) + len(found), min(found, key=lambda one: one.error))
                 tried += found
                 elite = sorted((one for one in found if math.isfinite(one.error)), key=lambda one: one.error)[:search.elite]
                 if not elite:
-                    raise Fault("no point within the bounds admits the demand: it exceeds the capacity of an inlet. Widen the bounds of slowing or factor")
+                    raise BeyondBounds("no point within the bounds admits the demand: it exceeds the capacity of an inlet. Widen the bounds of "
+                                       "slowing or factor")
                 elites.append(elite)
                 factor = correct_factor(bounds, elite)
         except (LabError, KeyboardInterrupt):
@@ -339,4 +423,20 @@ def calibrate(name: str, figures: Figures, measured: Measured, bounds: Bounds = 
     fitted = fit_minimum(bounds, tried)
     slowing, start = fitted or mean[:2]
     _, of_ratios = find_centre([Point(0, 0, one.point.factor * one.ratio) for one in last])
-    return Calibration(Point(slowing, start, correct_factor(bounds, last)), spread._replace(factor=of_ratios.factor), tried, fitted is not None)
+    return Calibration(Point(slowing, start, correct_factor(bounds, last)), spread._replace(factor=of_ratios.factor), tried,
+                       measured_days[0][0].limit, fitted is not None, tuple(fit_day(bounds, tried, last, day) for day in range(len(measured_days))))
+
+
+def make_trial(point: Point, number: int, by_day: Sequence[Misfit]) -> Trial:
+    """Return a trial of a round, whose error and ratio are means over the measured days."""
+    return Trial(point, math.fsum(one.error for one in by_day) / len(by_day), number, math.fsum(one.ratio for one in by_day) / len(by_day),
+                 tuple(by_day))
+
+
+def fit_day(bounds: Bounds, tried: Sequence[Trial], last: Sequence[Trial], day: int) -> Point:
+    """Return the result of one measured day alone, from the trials of all days: the minimum of a quadratic, or the mean of its best
+    trials."""
+    alone = [one._replace(error=one.by_day[day].error) for one in tried]
+    best = sorted((one for one in alone if one.round), key=lambda one: one.error)[:len(last)]
+    slowing, start = fit_minimum(bounds, alone) or find_centre([one.point for one in best])[0][:2]
+    return Point(slowing, start, correct_factor(bounds, [one._replace(ratio=one.by_day[day].ratio) for one in last]))

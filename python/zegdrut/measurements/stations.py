@@ -22,7 +22,7 @@ from collections import Counter
 from dataclasses import dataclass, field, replace
 from pathlib import Path
 from types import MappingProxyType
-from typing import Iterable, Mapping, NamedTuple, Sequence
+from typing import Container, Iterable, Mapping, NamedTuple, Sequence
 
 from ..program.errors import Fault
 from ..roads.units import count_things
@@ -233,8 +233,9 @@ def read_value(path: Path, number: int, header: list[str], line: list[str], plac
 
 
 def read_counts(path: Path, stations: Mapping[str, Station] | None = None, columns: Mapping[str, str] | None = None,
-                units: Mapping[str, str] | None = None) -> Counts:
-    """Read the counts of stations. Fault: the file is not such a table, or the place of a station is unknown."""
+                units: Mapping[str, str] | None = None, dates: Container[datetime.date] | None = None) -> Counts:
+    """Read the counts of stations. With `dates`, rows of other dates are not read. Fault: the file is not such a table, or the place of a
+    station is unknown."""
     lines, header = read_table(path)
     if is_five_minutes(header):
         if stations is None:
@@ -242,8 +243,8 @@ def read_counts(path: Path, stations: Mapping[str, Station] | None = None, colum
                         "(--stations TABLE.csv)")
         if columns or units:
             raise Fault(f"{path} is station data without a header, whose columns and units are known: leave out --column and --unit")
-        return check_rows(read_five_minutes(path, [(1, header), *lines], stations))
-    return check_rows(read_with_header(path, header, lines, stations, columns or {}, units or {}))
+        return check_rows(read_five_minutes(path, [(1, header), *lines], stations, dates))
+    return check_rows(read_with_header(path, header, lines, stations, columns or {}, units or {}, dates))
 
 
 def is_five_minutes(first: list[str]) -> bool:
@@ -251,7 +252,8 @@ def is_five_minutes(first: list[str]) -> bool:
     return len(first) >= 12 and re.fullmatch(r"\d\d/\d\d/\d{4} \d\d:\d\d:\d\d", first[0]) is not None and first[1].isdigit()
 
 
-def read_five_minutes(path: Path, lines: list[tuple[int, list[str]]], stations: Mapping[str, Station]) -> Counts:
+def read_five_minutes(path: Path, lines: list[tuple[int, list[str]]], stations: Mapping[str, Station],
+                      dates: Container[datetime.date] | None) -> Counts:
     """Read station data without a header."""
     counts, used, left_out, unseen = Counts({}, [], str(path)), dict[str, Station](), Counter[str](), list[int]()
     doubts, header = Doubts(), list(FIVE_MINUTES)
@@ -267,6 +269,8 @@ def read_five_minutes(path: Path, lines: list[tuple[int, list[str]]], stations: 
             time = datetime.datetime.strptime(values["time"], "%m/%d/%Y %H:%M:%S")
         except ValueError:
             raise Fault(f"{path}, line {number}: time: {values['time']!r} is not month/day/year and a clock time") from None
+        if is_of_another_day(time, dates):
+            continue
         used[name] = stations[name]._replace(is_ramp=is_ramp(kind))
         if not values["count"].strip():
             unseen.append(number)
@@ -284,7 +288,7 @@ def read_five_minutes(path: Path, lines: list[tuple[int, list[str]]], stations: 
 
 
 def read_with_header(path: Path, header: list[str], lines: list[tuple[int, list[str]]], stations: Mapping[str, Station] | None,
-                     named: Mapping[str, str], units: Mapping[str, str]) -> Counts:
+                     named: Mapping[str, str], units: Mapping[str, str], dates: Container[datetime.date] | None) -> Counts:
     """Read counts with a header."""
     columns = find_columns(path, header, ("time",), named)
     what = "count" if "count" in columns else "flow"
@@ -301,17 +305,24 @@ def read_with_header(path: Path, header: list[str], lines: list[tuple[int, list[
     counts = Counts({}, [], str(path), are_per_hour=what == "flow" and not is_of_interval)
     doubts, empty = Doubts(), list[int]()
     for number, line in lines:
+        time = read_time(path, number, read_cell(line, columns["time"]))
+        if is_of_another_day(time, dates):
+            continue
         name = read_cell(line, columns[place])
         if name not in counts.stations:
             counts.stations[name] = find_station(path, number, header, line, columns, name, stations)
         if not read_cell(line, columns[what]):
             empty.append(number)
-        counts.rows.append(Row(number, name, read_time(path, number, read_cell(line, columns["time"])),
-                               doubts.read_count(path, number, header, line, columns[what]),
+        counts.rows.append(Row(number, name, time, doubts.read_count(path, number, header, line, columns[what]),
                                doubts.read_speed(path, number, header, line, columns["speed"], speeds) if "speed" in columns else None))
     note_lines(counts, empty, f"row has no {what}: treated as missing", f"rows have no {what}: treated as missing")
     doubts.tell(counts)
     return counts
+
+
+def is_of_another_day(time: datetime.datetime | datetime.time, dates: Container[datetime.date] | None) -> bool:
+    """Return whether a time has a date that is not one of some dates."""
+    return dates is not None and isinstance(time, datetime.datetime) and time.date() not in dates
 
 
 def find_station(path: Path, number: int, header: list[str], line: list[str], columns: Mapping[str, int], name: str,

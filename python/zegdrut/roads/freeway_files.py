@@ -265,7 +265,7 @@ class Reader:
 
 
 def write_road(path: Path, source: Path, figures: Figures) -> None:
-    """Write the file of a road: the one of `source`, with the demand, drivers, entry, date and detectors of some figures."""
+    """Write the file of a road: the one of `source`, with the limit, demand, drivers, entry, date and detectors of some figures."""
     clock = figures.clock
 
     def write_demand(demand: Demand) -> Json:
@@ -273,7 +273,7 @@ def write_road(path: Path, source: Path, figures: Figures) -> None:
             return demand
         return [[write_time(clock, to_steps(minute)), round(cars, 2)] for minute, cars in demand]
     found: dict[str, Json] = {
-        **json.loads(source.read_text(encoding="utf-8")), "main": write_demand(figures.main), "slowing": figures.slowing,
+        **json.loads(source.read_text(encoding="utf-8")), "limit": figures.limit, "main": write_demand(figures.main), "slowing": figures.slowing,
         "ramps": [[km, write_demand(demand)] for km, demand in figures.ramps], "detectors": [*figures.detectors]}
     more = (("start", figures.start), ("entry", figures.entry), ("date", figures.date))
     found.update({name: value for name, value in more if value is not None})

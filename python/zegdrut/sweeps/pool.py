@@ -22,12 +22,11 @@ Job = TypeVar("Job")
 
 
 class Outcome(NamedTuple):
-    """The index of a job, with its value, or with an error message, or with an exception after which no other job can succeed."""
+    """The index of a job, with its value, or with an error message."""
 
     job: int
     value: object
     error: str | None
-    ends: Exception | None = None
 
 
 class Worker:
@@ -92,7 +91,7 @@ def serve(work: Callable[[Job], object], jobs: Sequence[Job], pipe: Connection, 
         try:
             done = Outcome(job, work(jobs[job]), None)
         except NoProgram as fault:
-            done = Outcome(job, None, None, fault)
+            done = Outcome(job, fault, None)  # (the parent raises it: no other job can succeed)
         except Exception as fault:
             done = Outcome(job, None, f"{type(fault).__name__}: {fault}")
         try:
@@ -139,8 +138,8 @@ def run_in_parallel(work: Callable[[Job], object], jobs: Sequence[Job], workers:
                 else:
                     team.remove(worker)
                     worker.end()
-                if done is not None and done.ends:
-                    raise done.ends
+                if done is not None and isinstance(done.value, NoProgram):
+                    raise done.value
                 if done is not None:
                     yield done
     finally:
