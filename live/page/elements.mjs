@@ -11,7 +11,7 @@ import {assign} from "./assign.mjs";
  *            | "previewDays", HTMLSpanElement>
  *   & Record<"hour" | "ahead" | "back" | "savePicture" | "saveTranscript" | "saveScript"
  *            | "saveFigures" | "saveTravel" | "saveReport" | "saveCounts" | "saveChanges" | "undo" | "redo" | "apply"
- *            | "dropChange" | "closer" | "farther" | "wholeRoad" | "shareAll", HTMLButtonElement>
+ *            | "changeSeat" | "dropChange" | "closer" | "farther" | "wholeRoad" | "shareAll", HTMLButtonElement>
  *   & Record<"follow" | "name" | "demand" | "slow" | "start" | "kmFrom" | "kmTo" | "timeFrom"
  *            | "timeTo" | "letters", HTMLInputElement>
  *   & Record<"save" | "asTable" | "sites" | "past" | "series" | "fileDemand", HTMLDetailsElement>

@@ -2,7 +2,7 @@
 
 import {$, button, childrenOf, closest, element, on, showList} from "./elements.mjs";
 import {excludeSite} from "./acting.mjs";
-import {chooseSeat, closeNote, join} from "./joining.mjs";
+import {changeSeat, chooseSeat, closeNote, join} from "./joining.mjs";
 import {backToClock, setFollowing, lookAhead, runAnHour, setRate} from "./looking.mjs";
 import * as messages from "./messages.mjs";
 import {holdButton, need, now, releaseButton, store, watch} from "./store.mjs";
@@ -25,16 +25,14 @@ function showConnection() {
   $("line").title = text;
 }
 
-/** Make the note about the program: a calm line, which can be closed for this tab.
+/** Make the note about the program: a calm line, which can be closed for this browser. What to do
+ * about it is its title.
  * @param {string} text
  * @returns {import("./elements.mjs").Item}
  */
 function calmItem(text) {
-  const means = text.includes("not proved") ? "Results are tested, not proved"
-    : "Results come from an earlier version of the program";
-  const said = `${means}: ${text}`;
-  return {key: text, version: text, make: () => element("li", "", {className: "calm", title: said},
-    element("span", said), button("Close", closeNote, "this note"))};
+  return {key: text, version: text, make: () => element("li", "", {className: "calm", title: text},
+    element("span", messages.standing(text)), button("Close", closeNote, "this note"))};
 }
 
 /** Show faults, until they are over or for a while. */
@@ -58,6 +56,7 @@ function showSites() {
 function showMe() {
   const {name, seat} = need("me");
   $("me").replaceChildren(name, element("span", ` (seat ${seat})`, {className: "seat"}));
+  $("changeSeat").hidden = false;
   document.title = `${name}: a road, live`;
 }
 
@@ -145,6 +144,7 @@ export function begin() {
   on("ahead", "click", lookAhead);
   on("back", "click", () => { backToClock(); $("ahead").focus(); });
   on("hour", "click", runAnHour);
+  on("changeSeat", "click", changeSeat);
   on("hello", "cancel", (event) => event.preventDefault());
   on("helloForm", "submit", (event) => {
     event.preventDefault();

@@ -8,6 +8,7 @@ import {hearDays} from "./days.mjs";
 import {curveAt} from "./demand.mjs";
 import {Connection, TAKEN_OVER} from "./connection.mjs";
 import {DayClock} from "./dayclock.mjs";
+import {loadSeats, remember, remembered, storeSeat} from "./kept.mjs";
 import {Layers} from "./layers.mjs";
 import * as messages from "./messages.mjs";
 import {Road} from "./rows.mjs";
@@ -43,26 +44,55 @@ export function connect() {
   store.connection.connect();
 }
 
-/** Join as the user wished, or in the seat that this tab had; otherwise ask for a name. */
+/** Join as the user wished, or in the seat that this tab or this browser had; otherwise ask for a
+ * name. */
 function greet() {
   if (store.wishes) hello(store.wishes);
   else if (stored("key")) hello({key: stored("key")});
-  else askName();
+  else if (stored("asks")) askName();
+  else rejoin();
+}
+
+/** Join in the latest seat of this browser that is not open in any tab; if there is none, ask for a
+ * name. */
+async function rejoin() {
+  const seats = await askSeats();
+  const free = new Set(seats.filter(({here}) => !here).map(({seat}) => seat));
+  const own = loadSeats().filter(({seat}) => free.has(seat)).at(-1);
+  if (own) hello({key: own.key}, true);
+  else askName(store.hello?.why, seats);
+}
+
+/** Ask who has a seat. */
+async function askSeats() {
+  const asked = {seats: {token: stored("token")}};
+  const said = /** @type {{seats?: Seat[]}} */ (
+    await need("connection").ask(asked).catch(() => ({})));
+  return said.seats ?? [];
+}
+
+/** Leave the seat as it is, and ask for a name. */
+export function changeSeat() {
+  sessionStorage.removeItem("key");
+  sessionStorage.setItem("asks", "yes");
+  location.reload();
 }
 
 /** Join. If that is refused, ask for a name. The key is dropped only if the seat is gone: a page that is
  * open over an upgrade returns to its seat, and sends what is pending, once it is reloaded.
  * @param {Wishes} fields
+ * @param {boolean} [isTried]     the page tries a key, which may be that of a former server
  */
-async function hello(fields) {
+async function hello(fields, isTried = false) {
   const asked = {hello: {token: stored("token"), form: FORM, ...fields}};
   const said = /** @type {HelloAnswer | null} */ (await need("connection").ask(asked).catch(() => null));
   if (!said) return;
   store.wishes = null;
   if ("welcome" in said) welcome(said.welcome);
   else {
-    if (said.refused === "UnknownKey") sessionStorage.removeItem("key");
-    askName(said.why ?? said.refused, said.seats);
+    const isGone = said.refused === "UnknownKey";
+    if (isGone) sessionStorage.removeItem("key");
+    askName(isGone && isTried ? "" : said.why ?? said.refused, said.seats);
   }
 }
 
@@ -82,12 +112,9 @@ async function askName(why = "", seats) {
   const question = {why, free: []};
   store.hello = question;
   notify("hello");
-  const connection = need("connection");
-  const asked = seats ? {seats}
-    : /** @type {{seats?: Seat[]}} */ (
-      await connection.ask({seats: {token: stored("token")}}).catch(() => ({})));
-  connection.disconnect();
-  const free = (asked.seats ?? []).filter(({here, name}) => !here && name);
+  const asked = seats ?? await askSeats();
+  need("connection").disconnect();
+  const free = asked.filter(({here, name}) => !here && name);
   assign(store.hello ?? question, {free, name: stored("name"), asks: true});
   notify("hello");
 }
@@ -108,8 +135,10 @@ async function welcome(said) {
   notify("hello");
   sessionStorage.setItem("key", said.key);
   sessionStorage.setItem("name", said.name);
+  sessionStorage.removeItem("asks");
+  storeSeat(said);
   assign(store, {me: said, limits: said.most ?? store.limits, programNote: said.standing ?? "",
-                 closedNote: stored("closed"), day: new DayClock(said.day ?? {})});
+                 closedNote: remembered("closed"), day: new DayClock(said.day ?? {})});
   assign(store.clock, {now: said.now, rate: said.rate});
   if (!store.plan) makeRoads(said.plan);
   for (const whose of BOTH) layersOf(whose).day = store.day;
@@ -242,9 +271,9 @@ function tellReplaced(why) {
   notify("siteFaults");
 }
 
-/** Close the note on the program, for this tab. */
+/** Close the note on the program, in this browser. */
 export function closeNote() {
-  sessionStorage.setItem("closed", store.programNote);
+  remember("closed", store.programNote);
   store.closedNote = store.programNote;
   notify("siteFaults");
 }

@@ -1,5 +1,5 @@
-// Pending changes, kept in the tab's storage until they are confirmed, so that a tab that is
-// reloaded still has them.
+// What is kept over a reload: pending changes in the tab's storage, until they are confirmed; and in
+// that of the browser its seats, so that it has them again after it was closed.
 
 /** @typedef {import("./types.mjs").Pending} Pending */
 
@@ -40,4 +40,51 @@ export function loadPending(storage) {
   } catch {
     return {at: "", acts: []};
   }
+}
+
+/** Return a text that this browser keeps for this address; "" if it keeps none.
+ * @param {string} name
+ */
+export function remembered(name) {
+  try {
+    return localStorage.getItem(name) ?? "";
+  } catch {
+    return "";
+  }
+}
+
+/** Keep a text in this browser. A browser that keeps nothing forgets it with the tab.
+ * @param {string} name
+ * @param {string} text
+ */
+export function remember(name, text) {
+  try {
+    localStorage.setItem(name, text);
+  } catch {
+    // It asks for a name again, or shows a note again.
+  }
+}
+
+const MOST_SEATS = 8;           // seats that a browser keeps
+/** @typedef {{seat: number, key: string}} KeptSeat */
+
+/** Return the seats that this browser had, the latest last.
+ * @returns {KeptSeat[]}
+ */
+export function loadSeats() {
+  try {
+    /** @type {unknown} */
+    const found = JSON.parse(remembered("seats") || "[]");
+    return Array.isArray(found) ? found : [];
+  } catch {
+    return [];
+  }
+}
+
+/** Keep a seat as the latest.
+ * @param {KeptSeat} kept
+ */
+export function storeSeat({seat, key}) {
+  const seats = [...loadSeats().filter((one) => one.seat !== seat), {seat, key}];
+  remember("seats", JSON.stringify(seats.slice(-MOST_SEATS)));
 }

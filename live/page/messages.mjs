@@ -54,6 +54,11 @@ export const pendingOfOtherSeat = (count) => `${plural(count, "unsent change")} 
 export const takeOver = (owner) =>
   `Whoever is using the seat of ${owner}, a person or a script, will lose it. `;
 
+/** @param {string} why       why the program is not the proved one of this version */
+export const standing = (why) => (why.includes("earlier source text")
+  ? "The road is computed by an earlier version of the program."
+  : "The program that computes the road is tested; its proof has not been run on this computer.");
+
 export const TROUBLE_OVER = "The server is working again.";
 
 /** @param {string} why */

@@ -67,7 +67,7 @@ import {HOUR} from "./units.mjs";
  * @property {{site: number, when: number}[]} sites     other sites, and when each was heard last
  * @property {string[]} siteFaults     what is wrong with sites
  * @property {string} programNote      a note that the program is not proved; "": it is
- * @property {string} closedNote       the note that this tab has closed
+ * @property {string} closedNote       the note that this browser has closed
  * @property {string} trouble          what is wrong with the disk
  * @property {{why: string, timer: Timer | undefined}} replaced     why the program was replaced; ""
  *   after a while

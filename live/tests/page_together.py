@@ -331,10 +331,30 @@ class TwoTabs(BrowserCase):
         ada.until(lambda: ada.text("said") == "A message from the broker was ignored: it is not JSON: good morning",
                   "the page reports garbage")
 
+    def test_a_browser_that_is_opened_again_has_its_seat_again(self) -> None:
+        """Another tab of the same browser asks for a name, and so does `Not you?`."""
+        ada, ben = self.open(FREE_ROAD)
+        ada.limit("1", "0:20", "0:30")
+        ada.script("sessionStorage.clear()")  # as a browser does that is closed
+        ada.driver.get("about:blank")
+        ben.until(lambda: ben.text("others") == "", "she has left")
+        ada.driver.get(self.server.address)
+        ada.until(lambda: ada.lines("own") == ["27 km/h, 0–0.3 km, 0:20:00–0:30:00 private"], "her changes")
+        self.assertEqual(ada.text("me"), "Ada (seat 1)")
+        first = ada.driver.current_window_handle
+        ada.driver.switch_to.new_window("tab")
+        ada.driver.get(self.server.address)
+        ada.until(lambda: ada.part("hello").get_attribute("open") is not None, "asks for a name")
+        ada.driver.close()
+        ada.driver.switch_to.window(first)
+        ada.press("Not you?")
+        ada.until(lambda: ada.script("return $('hello').open && $('seatList').children.length"), "asks for a name")
+        self.assertEqual([entry["seat"]["seat"] for entry in self.server.journal() if "seat" in entry], [1, 2])
+
     def test_a_seat_can_be_taken_over(self) -> None:
         ada, ben = self.open(FREE_ROAD, LIVE_HELLO="5")
         ada.limit("1", "0:20", "0:30")
-        ada.script("sessionStorage.clear()")
+        ada.script("sessionStorage.clear(), localStorage.clear()")
         ada.driver.get("about:blank")
         ada.driver.get(self.server.address)
         ada.until(lambda: ada.part("seats").is_displayed(), "the seats")
