@@ -47,6 +47,10 @@ def model(x: int, seed: int) -> dict[str, Any]:
         return {"cars": lab.count("A", 0, 0, 200).cars}
 
 
+def add(x: int, seed: int) -> dict[str, int]:
+    return {"y": x * 10 + seed}
+
+
 def die(x: int, seed: int) -> dict[str, Any]:
     if x == 3:
         os.kill(os.getpid(), signal.SIGKILL)
@@ -74,6 +78,12 @@ class Executors(unittest.TestCase):
     def test_threads(self) -> None:
         with ThreadPoolExecutor(3) as executor:
             self.check(executor)
+
+    def test_short_runs(self) -> None:
+        """Run short runs, which are sent in batches: each has its own figures."""
+        with ThreadPoolExecutor(2) as executor:
+            found = sweep(add, {"x": range(300)}, (1, 2, 3), executor=executor)
+        self.assertEqual([row["y"] for row in found.rows], [x * 10 + seed for x in range(300) for seed in (1, 2, 3)])
 
     def test_loky(self) -> None:
         python = find_python("joblib")
