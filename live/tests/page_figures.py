@@ -113,6 +113,7 @@ class OneFreeway(BrowserCase):
         tab.until(lambda: tab.text("clock") == "08:00:00", "the clock")
         tab.settled()
         self.assertEqual(tab.lines("held"), ["54 km/h, 0.9–1.2 km, 07:04–07:08 shared"])
+        self.assertIn("The demand in the road's file ends at 07:15. From then on, its last values apply.", tab.text("warnings"))
         self.assertEqual(tab.script("return [...document.querySelectorAll('#fileDemandTable tr')].map((row) => "
                                     "[...row.children].map((cell) => cell.textContent).join(' '))"),
                          ["from at 0 km at 0.45 km", "07:00 900 200", "07:05 612 200", "07:10 612 311"])
