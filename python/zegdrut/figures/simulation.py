@@ -98,10 +98,10 @@ def simulate_days(make_run: Callable[[Job], R], seeds: Sequence[Job], progress: 
     found: dict[int, R] = {}
     running = run_in_parallel(attempt, seeds)
     try:
-        for job, value, error in running:
-            if error is not None or isinstance(value, Fault):
-                raise Fault(f"seed {name(seeds[job])}: {error or value}")
-            found[job] = cast(R, value)
+        for done in running:
+            if done.error is not None or isinstance(done.value, Fault):
+                raise Fault(f"seed {name(seeds[done.job])}: {done.error or done.value}")
+            found[done.job] = cast(R, done.value)
             if progress:
                 progress(len(found), len(seeds))
     finally:
