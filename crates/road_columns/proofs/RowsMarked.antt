@@ -8,7 +8,7 @@ use Rattle.road_cells.specs.declared.car.TheConstants.{GREATEST_SPEED}
 use Rattle.road_cells.proofs.CarLists.{vehicle_among-cars_from}
 use Rattle.road_ends.specs.Row.{row_of}
 use Rattle.road_ends.specs.declared.letters.TheConstants.{EMPTY, STANDING}
-use Rattle.road_detector.specs.Private.MarkedRows.{blocked_letter, car_letter}
+use Rattle.road_detector.specs.Rows.{blocked_letter, car_letter}
 use Rattle.road_detector.proofs.MarkedRow.{HasDigits, made}
 use Rattle.road_columns.specs.Private.CarsAt.{from_place}
 use Rattle.road_columns.specs.Private.Held.{road_in}

@@ -11,7 +11,6 @@ ghost use Rattle.road_columns.specs.Private.Step.{AreCarsInColumn, LetsLeave};
 
 use crate::cutting::NOWHERE;
 use crate::finding::cars_past;
-use crate::holding::road_held;
 use crate::shifting::FIRST;
 use road_cells::{Car, Road};
 use road_ends::OutOfMemory;
@@ -101,18 +100,22 @@ impl CarColumns {
     /// # Errors
     ///
     /// `OutOfMemory` if its only allocation fails.
+    #[inline(never)]
     pub fn road(&self, alloc: Global) -> Result<Road, OutOfMemory>
         requires falling { AreFalling self.now.cells.items self.now.head self.now.tail }
         ensures { IfOk result (λ road. road ≡ road_of self.now) }
     {
-        road_held(
-            alloc,
-            &self.cells,
-            &self.speeds,
-            &self.numbers,
-            self.head,
-            self.tail,
-        )
+        let mut cars = Vec::with_capacity(alloc, self.tail - self.head)?;
+        let mut place = self.tail;
+        while place > self.head {
+            place -= 1;
+            cars.push(Car {
+                number: u64::from(self.numbers[place]),
+                cell: u32::from(self.cells[place]),
+                speed: self.speeds[place],
+            })?;
+        }
+        Ok(Road::of(cars))
     }
 
     /// Return the number of cars.

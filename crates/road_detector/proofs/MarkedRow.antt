@@ -15,8 +15,7 @@ use Rattle.road_cells.specs.declared.car.Car.{Car}
 use Rattle.road_cells.specs.declared.car.TheConstants.{GREATEST_SPEED}
 use Rattle.road_ends.specs.Row.{letter, row_of}
 use Rattle.road_ends.specs.declared.letters.TheConstants.{STANDING, BLOCKED, EMPTY}
-use Rattle.road_detector.specs.Rows.{HaveDigits}
-use Rattle.road_detector.specs.Private.MarkedRows.{blocked_letter, car_letter}
+use Rattle.road_detector.specs.Rows.{HaveDigits, blocked_letter, car_letter}
 
 -- each car of an array has a speed that is a digit
 abbrev pub HasDigits : Array → Type 0

@@ -5,8 +5,7 @@ ghost use Rattle.std.specs.String.{string_bytes};
 ghost use Rattle.road_cells.specs.Cars.{AreRising, cars_of, vehicle_among};
 ghost use Rattle.road_cells.specs.Gap.{is_blocked};
 ghost use Rattle.road_ends.specs.Row.{row_of};
-ghost use Rattle.road_detector.specs.Rows.{HaveDigits};
-ghost use Rattle.road_detector.specs.Private.MarkedRows.{blocked_letter, car_letter};
+ghost use Rattle.road_detector.specs.Rows.{HaveDigits, blocked_letter, car_letter};
 
 use crate::OutOfMemory;
 use road_cells::{Car, Road};

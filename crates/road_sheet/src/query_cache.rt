@@ -1,5 +1,5 @@
-//! The only reader of sheets. It keeps the run of its last query under way, so queries at rising steps do not compute
-//! any step, random word or settings twice.
+//! The only reader of sheets. It keeps the run of its last query under way, and a query at a later step continues it
+//! (`ShownRun::go_to`). No clause says so: a new run for each query gives the same answers.
 
 ghost use Rattle.std.specs.Prelude.{◌≡◌, ◌<◌, ◌≤◌, ◌+◌, ◌-◌, ◌%◌, IfErr, IfOk, IsOk, None};
 ghost use Rattle.std.specs.Prelude.{length, map, string_bytes};

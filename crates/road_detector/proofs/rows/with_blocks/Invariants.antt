@@ -2,7 +2,7 @@
 use Rattle.std.proofs.Common.{◌≡◌, ℕ, ◌<◌, length, drop}
 use Rattle.std.specs.Prelude.{slice_index}
 use Rattle.road_cells.specs.Gap.{is_blocked}
-use Rattle.road_detector.specs.Private.MarkedRows.{blocked_letter}
+use Rattle.road_detector.specs.Rows.{blocked_letter}
 use Rattle.road_detector.proofs.rows.with_blocks.Given as goal
 
 abbrev pub invariant-loop-block : goal.invariant-loop-block

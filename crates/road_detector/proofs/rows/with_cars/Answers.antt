@@ -6,7 +6,7 @@ use Rattle.std.proofs.lemmas.List.{length-set, get_or_default}
 use Rattle.road_cells.specs.Cars.{vehicle_among}
 use Rattle.road_cells.specs.declared.car.Car.{Car}
 use Rattle.road_ends.specs.declared.letters.TheConstants.{STANDING}
-use Rattle.road_detector.specs.Private.MarkedRows.{car_letter}
+use Rattle.road_detector.specs.Rows.{car_letter}
 use Rattle.road_detector.proofs.MarkedRow.{next_drawn, next_past}
 use Rattle.road_detector.proofs.rows.with_cars.Goals as goal
 use Rattle.road_detector.proofs.rows.with_cars.Goals.{then-car-len, else-car-len}

@@ -2,7 +2,7 @@
 use Rattle.std.proofs.Common.{◌≡◌, ℕ, ◌<◌, length, drop}
 use Rattle.std.specs.Prelude.{slice_index}
 use Rattle.road_cells.specs.Cars.{vehicle_among}
-use Rattle.road_detector.specs.Private.MarkedRows.{car_letter}
+use Rattle.road_detector.specs.Rows.{car_letter}
 use Rattle.road_detector.proofs.rows.with_cars.Given as goal
 
 abbrev pub invariant-loop-car : goal.invariant-loop-car
