@@ -137,6 +137,8 @@ class Frames(Case):
         self.assertEqual((await self.raw(self.hello("d"), *["x"] * 40))[-1], 1008)
 
     async def test_an_endless_frame_is_refused_and_not_kept(self) -> None:
+        self.a6 = self.server(LIVE_HELLO=str(10 * PATIENCE))  # so that it is not disconnected for being slow
+        self.base = self.a6.address.partition("/#")[0]
         host = self.base.rpartition("/")[2]
         reader, writer = await asyncio.open_connection("127.0.0.1", int(host.rpartition(":")[2]))
         writer.write((f"GET /live HTTP/1.1\r\nHost: {host}\r\nOrigin: {self.base}\r\nUpgrade: websocket\r\n"
