@@ -279,7 +279,7 @@ class Tabs:
                 "time": round(time.time(), 3),
                 "most": {"edits": MOST_EDITS, "rows": MOST_ROWS, "bytes": MOST_BYTES,
                          "days": self.lab.keeper.settings.days}, "broker": self._broker(),
-                "trouble": self._trouble, "standing": self._standing, "day": self._day(),
+                "trouble": self._trouble, "standing": self._standing, "day": self._day(), "demand_end": plans.find_profile_end(self.lab.keeper.folder),
                 "road": plans.name_of(self.lab.keeper.folder)}
 
     def _day(self) -> Mapping[str, int | str | None]:
