@@ -18,7 +18,7 @@ from built_programs import TOP
 from check_parts import Part
 
 LOOK = 0.2  # seconds between two looks at the parts that run
-LONGEST = 3_600  # seconds that a part may run whose output is not shown while it runs
+LONGEST = 3_600  # seconds that a part may run without printing anything
 PASSED, FAILED, LEFT_OUT = "ok", "FAILED", "left out"
 SAYS_LEFT_OUT = "left out: "  # a test begins a line with this if the test itself leaves something out
 SAYS_BAD_EDIT = ": BAD EDIT: "  # rt says this of an edit that cannot be applied or compiled; `rt ci` then passes
@@ -35,12 +35,18 @@ class Run:
     processors: int
     began: float = field(default_factory=time.monotonic)
     shown: int = 0
+    size: int = 0
+    printed: float = field(default_factory=time.monotonic)
 
     def seconds(self) -> float:
         return time.monotonic() - self.began
 
-    def is_too_long(self) -> bool:
-        return not self.part.is_shown and self.seconds() > LONGEST
+    def is_stuck(self) -> bool:
+        """Return whether the part has printed nothing for too long. The proof may print nothing while it proves one crate."""
+        size = self.log.stat().st_size
+        if size != self.size:
+            self.size, self.printed = size, time.monotonic()
+        return not self.part.is_shown and time.monotonic() - self.printed > LONGEST
 
     def show_new_lines(self) -> None:
         """Print what was added to the log since the last call."""
@@ -110,7 +116,7 @@ def run_all(parts: Sequence[Part], processors: int, report: Report) -> None:
     waiting, running = list(parts), list[Run]()
     try:
         while waiting or running:
-            for run in [run for run in running if run.process.poll() is not None or run.is_too_long()]:
+            for run in [run for run in running if run.process.poll() is not None or run.is_stuck()]:
                 running.remove(run)
                 finish(run, report)
             waiting = [part for part in waiting if not settle(part, running, processors, report)]
@@ -152,15 +158,15 @@ def begin(part: Part, processors: int, folder: Path) -> Run:
 
 
 def finish(run: Run, report: Report) -> None:
-    """Report a part that has ended. End and report a part that takes too long."""
-    is_too_long = run.process.poll() is None
+    """Report a part that has ended. End and report a part that is stuck."""
+    is_stuck = run.process.poll() is None
     processes.end(run.process)
     if run.part.is_shown:
         run.show_new_lines()
     output = run.log.read_text(encoding="utf-8", errors="replace")
-    if not is_too_long and run.process.returncode == 0:
+    if not is_stuck and run.process.returncode == 0:
         return report.add_ended(run.part, run.seconds(), output)
-    report.add(run.part, FAILED, run.seconds(), f"longer than {LONGEST} s" if is_too_long else f"status {run.process.returncode}")
+    report.add(run.part, FAILED, run.seconds(), f"no output for {LONGEST} s" if is_stuck else f"status {run.process.returncode}")
     if not run.part.is_shown:
         print(f"{output.rstrip()}\n({run.log})", flush=True)
 

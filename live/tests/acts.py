@@ -7,7 +7,9 @@ import os
 import signal
 from typing import Any
 
+from faulty import Bus, Here
 from server.tabs.client import RefusedReply, Seat
+from server.tabs.refusals import Refused
 from server.model.operations import Stamp
 from running import SMALL, PATIENCE, Case, descendants, until
 
@@ -476,6 +478,47 @@ class Acts(Case):
         for fields in acts:
             with self.assertRaisesRegex(RefusedReply, "this line excludes a site"):
                 await self.ada.ask("gesture", key="a", layer=out, **fields)
+
+    async def test_only_its_site_undoes_an_exclusion(self) -> None:
+        bus = Bus()
+        one, two = [await self.enterAsyncContext(Here(site=number)) for number in (1, 2)]
+        bus.site(one), bus.site(two)
+        for here in (one, two):
+            await here.join("Ada")
+        out = (await one.ask(1, "site", key="out", site=9, out=True))["stamp"]
+        await one.share(1)
+        await bus.carry()
+        await two.take(1)
+        with self.assertRaises(Refused) as refused:
+            await two.ask(1, "undo", key="u", stamp=[*out])
+        self.assertEqual((refused.exception.text, refused.exception.why),
+                         ("NothingToUndo", "only site 1 can undo its own exclusion of site 9: include that site again instead"))
+        await one.ask(1, "undo", key="u", stamp="out")
+        self.assertEqual(one.lab.state.seats[1].road.record.excluded, frozenset())
+
+    async def test_what_need_not_be_shared_is_marked_in_its_line(self) -> None:
+        async with Here() as here:
+            await here.join("Ada")
+            await here.ask(1, "gesture", key="a", shape=CLOSED)
+            await here.share(1)
+            await here.ask(1, "gesture", key="b", layer="a", shape=["block", 60, 70, 30, 60, 1])
+
+            async def idle() -> list[Any]:
+                line, = (await here.ask(1, "layers"))["layers"]
+                return [(one["does"], one.get("idle", False)) for one in line["operations"]]
+            self.assertEqual(await idle(), [("put", False), ("change", False)])
+            await here.ask(1, "undo", key="c", stamp="b")
+            self.assertEqual(await idle(), [("put", False), ("change", True), ("undo", True)])
+
+    async def test_a_demand_goes_with_its_chance(self) -> None:
+        """A change of the time keeps the demand, a change to another chance does not."""
+        async with Here() as here:
+            await here.join("Ada")
+            await here.ask(1, "gesture", key="a", shape=["inflow", 0, 0, 30, 60, 9_000], demand=700)
+            for key, shape, demand in (("b", ["inflow", 0, 0, 30, 90, 9_000], 700), ("c", ["inflow", 0, 0, 30, 90, 9_500], None)):
+                await here.ask(1, "gesture", key=key, layer="a", shape=shape)
+                line, = (await here.ask(1, "layers"))["layers"]
+                self.assertEqual(line.get("demand"), demand, key)
 
     async def test_forgotten_changes_are_no_longer_listed(self) -> None:
         server = self.server(LIVE_MOST_UNDONE="30")

@@ -8,7 +8,7 @@ import time
 from pathlib import Path
 from typing import Any, Callable
 
-from running import Server, Watched, free_port, new_folder
+from running import Server, Watched, free_port, new_folder, slowness
 from selenium import webdriver
 from selenium.webdriver.chrome.service import Service
 from selenium.webdriver.common.action_chains import ActionChains
@@ -156,7 +156,7 @@ class Tab:
                                                   "profile.default_content_setting_values.automatic_downloads": 1})
         options.set_capability("goog:loggingPrefs", {"browser": "ALL"})
         self.driver = webdriver.Chrome(options=options, service=Service(shutil.which("chromedriver")))
-        self.driver.set_script_timeout(2 * PATIENCE)
+        self.driver.set_script_timeout(10 * PATIENCE)
         self.driver.execute_cdp_cmd("Page.addScriptToEvaluateOnNewDocument", {"source": RECORDER})
         self.downloads = downloads
 
@@ -186,9 +186,9 @@ class Tab:
         return " ".join(str(self.script("return document.getElementById(arguments[0]).textContent", ident)).split())
 
     def until(self, condition: Callable[[], Any], what: str) -> None:
-        """Wait until a condition holds."""
-        end = time.monotonic() + PATIENCE
-        while time.monotonic() < end:
+        """Wait until a condition holds: for PATIENCE seconds, or longer on a busy machine."""
+        begin = time.monotonic()
+        while time.monotonic() < begin + PATIENCE * slowness():
             if condition():
                 return
             time.sleep(0.03)

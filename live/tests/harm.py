@@ -244,9 +244,13 @@ class Bounds(Case):
         await here.put(ada, ["limit", 1, 50, 4])
         await here.share(ada)
         await bus.carry()
-        for form, sent in ((2, []), (3, ["operations"])):
+        announced = json.dumps({"folder": "f", "run": "r", "site": 2, "road": site._road, "form": 3}).encode()
+        for form, is_here, sent in ((2, True, []), (3, False, []), (3, True, ["operations"])):
+            site._peers.known.clear()
+            if is_here:
+                await site._receive("road/sites", "f", announced)
             for _ in range(3):
-                body = json.dumps({"folder": "f", "form": form, "sum": "0", "numbers": {"all": "0"}, "timeline": "?"}).encode()
+                body = json.dumps({"folder": "f", "form": form, "sum": "0", "ranges": [[None, "0"]], "timeline": "?"}).encode()
                 await site._receive(f"road/{site._road}/sum", "f", body)
             self.assertEqual([one.topic.rpartition("/")[2] for one in bus.sent], sent)
 
@@ -254,8 +258,8 @@ class Bounds(Case):
         bus = Bus()
         here = await self.enterAsyncContext(Here(site=1))
         site = bus.site(here)
-        numbers_here = site._hash_numbers()
-        body = json.dumps({"folder": "f", "form": 3, "sum": numbers_here["all"], "numbers": numbers_here,
+        await site._receive("road/sites", "f", json.dumps({"folder": "f", "run": "r", "site": 2, "road": site._road, "form": 3}).encode())
+        body = json.dumps({"folder": "f", "form": 3, "sum": site._sum_up().total, "ranges": site._sum_up().ranges(),
                            "timeline": await site._hash_road()}).encode()
         await site._receive(f"road/{site._road}/sum", "f", body)
         self.assertNotIn("another road", told(site))
@@ -271,8 +275,8 @@ class Bounds(Case):
         for number in range(1_100):
             name = f"{number}" + "x" * 5_000
             for topic, value in (("road/sites", {"site": number % 1_000 + 2, "road": name, "run": name}),
-                                 (f"road/{site._road}/sum", {"form": 3, "sum": name, "numbers": {}}),
-                                 (f"road/{site._road}/sum", {"form": 3, "sum": name, "numbers": {"all": name}})):
+                                 (f"road/{site._road}/sum", {"form": 3, "sum": name, "ranges": [[None, ""]]}),
+                                 (f"road/{site._road}/sum", {"form": 3, "sum": name, "ranges": [[None, name[:9]]]})):
                 await site._receive(topic, "", json.dumps({"folder": name, **value}).encode())
         everything: list[Mapping[Any, object]] = [site._peers.known, site._sums, site._pauses, here.lab.state.bound]
         for kept in everything:
@@ -341,6 +345,15 @@ class Refusals(unittest.TestCase):
             self.assertRegex(name, r"^[A-Z][A-Za-z]+$")
         with self.assertRaisesRegex(ValueError, "no refusal is named too far ahead"):
             Refused("too far ahead", "")
+
+
+class Changes(unittest.TestCase):
+    def test_the_commands_that_the_page_lists_as_changes_are_marked(self) -> None:
+        text = (LIVE / "PROTOCOL.md").read_text(encoding="utf-8").partition("### Changing your own road\n")[2].partition("\n### ")[0]
+        listed = {name for line in re.findall("^- (.*)$", text, re.MULTILINE) for name in re.findall(r"`(\w+)` \{", line)}
+        others = {"clock", "leave", "unbind"}  # of the clock, seats and sites
+        self.assertEqual({verb for verb in verbs.VERBS if verbs.is_change(verb)}, listed | others)
+        self.assertFalse(verbs.is_change("nothing"))
 
 
 class Tabs(Case):

@@ -68,6 +68,29 @@ class Cases(unittest.TestCase):
         self.assertEqual(road.layers[LINE].end, 15)
         self.assertEqual(seen.find_overruled(road, LINE), {taken: on_it})
 
+    def test_an_undo_that_the_author_of_a_change_had_seen_has_not_lost_to_it(self) -> None:
+        taken = undo((2, BEN), CLOSURE)
+        again = change(BASE.adding([taken]), (3, ADA), LINE, LONGER)
+        road = in_every_order([CLOSURE, taken, again])
+        self.assertEqual((road.layers[LINE].end, seen.find_overruled(road, LINE)), (25, {}))
+        at_once = change(BASE, (3, ADA), LINE, LONGER)
+        self.assertEqual(seen.find_overruled(in_every_order([CLOSURE, taken, at_once]), LINE), {taken: at_once})
+
+    def test_behind_a_gap_only_what_is_later_than_the_gap_has_lost(self) -> None:
+        """The author of the last change had seen one that is missing here, so he may have seen all older ones."""
+        older, missing = change(BASE, (2, ADA), LINE, WIDE), change(BASE, (3, BEN), LINE, SHAPE)
+        later = change(BASE, (4, ADA), LINE, SHAPE)
+        last = change(BASE.adding([missing]), (5, BEN), LINE, LONGER)
+        self.assertEqual(seen.find_overruled(in_every_order([CLOSURE, older, last]), LINE), {})
+        self.assertEqual(seen.find_overruled(in_every_order([CLOSURE, older, later, last]), LINE), {later: last})
+
+    def test_a_new_act_ends_redo(self) -> None:
+        taken = undo((2, ADA), CLOSURE)
+        road = BASE.adding([taken])
+        self.assertEqual(choices.find_undoable(road, made_by(road, ADA)).redo, taken)
+        road = road.adding([put((3, ADA), Shape("limit", 1, 1, 5, 15, 3))])
+        self.assertIsNone(choices.find_undoable(road, made_by(road, ADA)).redo)
+
     def test_one_of_two_changes_at_once_wins_and_its_undo_shows_the_other(self) -> None:
         adas, bens = change(BASE, (2, ADA), LINE, WIDE), change(BASE, (2, BEN), LINE, LONGER)
         road = in_every_order([CLOSURE, adas, bens])
@@ -402,6 +425,19 @@ class Reading(unittest.TestCase):
         for more in cases:
             with self.assertRaisesRegex(Malformed, "older operations"):
                 read_operation({"stamp": [2, ADA], **more})
+
+    def test_an_exclusion_and_an_undo_do_nothing_else(self) -> None:
+        out, back = exclude((9, ADA), 2, True).written(), undo((9, ADA), CLOSURE).written()
+        more: list[dict[str, Json]] = [{"sets": [[[9, ADA], [*SHAPE]]]}, {"heights": [[[1, ADA], [9, ADA]]]}, {"undoes": [1, ADA]},
+                                       {"seen": [1, ADA]}]
+        for fields in more:
+            with self.assertRaisesRegex(Malformed, "must do nothing else", msg=fields):
+                read_operation({**out, **fields})
+        more[2:] = [{"excludes": [2, True]}]
+        for fields in more:
+            with self.assertRaisesRegex(Malformed, "must do nothing else", msg=fields):
+                read_operation({**back, **fields})
+        self.assertEqual(read_operation({**out, "note": "why"}).excludes, (2, True))
 
     def test_an_operation_without_effect_is_refused(self) -> None:
         with self.assertRaisesRegex(Malformed, "nothing"):

@@ -27,9 +27,9 @@ class ForAll(BrowserCase):
         tab.tool("limit")
         tab.type_and_apply(kmFrom="0", kmTo="0.3", timeFrom="0:20", timeTo="0:30")
         nodes = tab.driver.execute_cdp_cmd("Accessibility.getFullAXTree", {})["nodes"]
-        found = [(node["role"]["value"], node.get("name", {}).get("value", "")) for node in nodes
+        found = [(node["role"]["value"], node.get("name", {}).get("value", "").strip()) for node in nodes
                  if not node["ignored"] and "role" in node]
-        nameless = [role for role, name in found if not name.strip() and role in (
+        nameless = [role for role, name in found if not name and role in (
             "button", "radio", "checkbox", "combobox", "textbox", "spinbutton", "application", "table", "region",
             "complementary", "group", "list", "heading", "DisclosureTriangle", "link")]
         self.assertEqual(nameless, [])

@@ -34,7 +34,8 @@ SMALL: dict[str, Any] = {
     "length": 120, "exit": 1, "zone": 20, "zones": [[5, 6_554]] * 6, "inlets": [[0, 27_918], [40, 9_000]],
     "detectors": [30, 70, 110], "words": 1, "replicas": ["road"]}
 ALL = os.environ.get("LIVE_TEST") == "all"  # `live/test --all`
-FIXED = {"LIVE_MILLISECONDS": "0"}  # a new count is the largest held one plus 1; some tests use the clock instead
+# A new count is the largest held one plus 1 (some tests use the clock instead). Figures get as much of a busy machine as the server.
+FIXED = {"LIVE_MILLISECONDS": "0", "LIVE_GIVES_WAY": "0"}
 STARTED: list[subprocess.Popen[Any]] = []
 LONGEST = 0.2  # seconds of processor that a piece of a server's work may take on a quiet machine
 PIECE = re.compile(rf"{SAID} for a piece of work of ([\d.]+) s")
@@ -116,11 +117,16 @@ def new_folder() -> Path:
     return FOLDERS[-1]
 
 
+def slowness() -> float:
+    """Return how many processes want to run for each processor that this one may use, or 1 if there are fewer."""
+    return max(1.0, os.getloadavg()[0] / len(os.sched_getaffinity(0)))
+
+
 async def until(holds: Callable[[], Awaitable[Any]], what: str, patience: float = PATIENCE) -> None:
-    """Wait until a condition holds."""
-    end_of_patience = time.monotonic() + patience
+    """Wait until a condition holds: for `patience` seconds, or longer on a busy machine."""
+    begin = time.monotonic()
     while not await holds():
-        if time.monotonic() > end_of_patience:
+        if time.monotonic() > begin + patience * slowness():
             raise AssertionError(f"waited in vain: {what}")
         await asyncio.sleep(0.05)
 

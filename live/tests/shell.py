@@ -2,17 +2,23 @@
 from __future__ import annotations
 
 import asyncio
+import contextlib
+import hashlib
 import json
 import os
 import re
+import sqlite3
 import subprocess
 import sys
+import time
 import unittest
 from typing import Any
 
+from oracle import by_rows, oracle_of
 from running import LIVE, PATIENCE, SMALL, Broker, Case, Server, end, new_folder, started
 from server.figures.curves import Curve
 from server.journal.records import read_plan_line
+from server.model.reading import read_operation
 from server.tabs.words import InvalidWords, find_chance, find_state, read_change
 from zegdrut.roads.clock import Clock
 from zegdrut.program.wire import WrittenEdit
@@ -150,6 +156,62 @@ class Shell(Case):
         self.assertEqual(shapes, {"limit": ["limit", 1, 2, 600, None, 2]})
         from zegdrut.roads.demand import Drivers, measure_admission
         self.assertAlmostEqual(measure_admission(Drivers(5, 6_554)).admitted(chance), 1_200, delta=0.5)
+
+    async def test_changes_are_exported_as_tables(self) -> None:
+        """Those of the shared road and the seat's own while a server runs, otherwise all. The painter gets the road from them, and no
+        table has a key, the token or a secret."""
+        (self.a6.folder / "freeway.json").write_text('{"begin": "06:30", "date": "2026-03-02"}', encoding="utf-8")
+        async with self.a6.seat("Ada") as ada, self.a6.seat("Ben") as ben:
+            await ada.ask("gesture", key="gesture-key-1", shape=["limit", 1, 2, 600, 1_200, 2], note="works")
+            await ada.ask("gesture", key="gesture-key-2", shape=["block", 60, 66, 1_800, None, 1])
+            await ada.ask("gesture", key="gesture-key-3", layer="gesture-key-1", shape=["limit", 1, 3, 600, 1_200, 2])
+            await ada.ask("send", name="shared", title="night works")
+            await ada.ask("gesture", key="gesture-key-4", layer="gesture-key-2", shape=None)
+            undo = await ada.ask("undo", key="gesture-key-5", stamp="gesture-key-4")
+            await ada.ask("undo", key="gesture-key-6", stamp=undo["stamp"])
+            await ben.ask("gesture", key="gesture-key-7", shape=["watch", 1, 1, 90, None, 0])
+            await ben.ask("gesture", key="gesture-key-8", shape=["inflow", 1, 1, 0, None, 30_000], demand=900)
+            values = {at: by_rows((await seat.ask("scenario", at=at))["edits"]) for seat, at in ((ada, "shared"), (ada, ada.at), (ben, ben.at))}
+            private = [(one["seat"], one["name"], one["private"]) for one in (await ada.say("seats"))["seats"]]
+        keys = [ada.key, ben.key]
+        (self.a6.folder / "keys").mkdir()
+        (self.a6.folder / "keys" / "Ada").write_text(ada.key)
+        adas: list[Any] = [
+            ("Ada", "put", "limit 54 km/h", 0.15, 0.45, "2026-03-02 06:40", "2026-03-02 06:50", "works", 1),
+            ("Ada", "put", "closed", 0.45, 0.5025, "2026-03-02 07:00", None, "", 1),
+            ("Ada", "change", "limit 54 km/h", 0.15, 0.6, "2026-03-02 06:40", "2026-03-02 06:50", "", 1),
+            ("Ada", "withdraw", "withdrawn", None, None, None, None, "", 0),
+            ("Ada", "undo", None, None, None, None, None, "", 0), ("Ada", "redo", None, None, None, None, None, "", 0)]
+        bens: list[Any] = [("Ben", "put", "detector off", 0.525, 0.525, "2026-03-02 06:31:30", None, "", 0),
+                           ("Ben", "put", "900 cars/h", 0.3, 0.3, "2026-03-02 06:30", None, "", 0)]
+        files = [new_folder() / f"{name}.db" for name in ("one", "all")]
+        for file, expected in zip(files, (adas, adas + bens)):
+            status, said, _ = await self.road("Ada", "export", str(file), LIVE=str(self.a6.folder))
+            self.assertEqual((status, said), (0, f"wrote {len(expected)} operations to {file}"))
+            with contextlib.closing(sqlite3.connect(file)) as tables:
+                changes = tables.execute("SELECT who, does, what, round(from_km, 6), round(to_km, 6), from_time, to_time, note, shared FROM changes"
+                                         ).fetchall()
+                self.assertEqual(sorted(map(repr, changes)), sorted(map(repr, expected)))
+                self.assertLess(abs(time.time() - tables.execute("SELECT max(strftime('%s', made)) + 0 FROM changes").fetchone()[0]), 300)
+                written = [(seat, shared, read_operation(json.loads(text))) for seat, shared, text in
+                           tables.execute("SELECT seat, shared, json FROM operations")]
+                seats = tables.execute("SELECT seat, name, private FROM seats ORDER BY seat").fetchall()
+                if file is files[1]:
+                    self.assertEqual(tables.execute("SELECT who, title, size FROM shares").fetchall(), [("Ada", "night works", 3)])
+            oracle = oracle_of(SMALL, 2_000)
+            for at, number in (("shared", 0), ("seat1", 1), *([("seat2", 2)] if file is files[1] else [])):
+                own = [one for seat, shared, one in written if (shared and not number) or (number and seat == number)]
+                self.assertEqual(oracle.by_the_program(values[at]), oracle.painted(own), at)
+            self.assertEqual(seats, private)
+            data = file.read_bytes()
+            secrets = [self.a6.folder.joinpath(name).read_text().strip() for name in ("token", "secret") if (self.a6.folder / name).exists()]
+            hashes = [hashlib.sha256(key.encode()).hexdigest() for key in keys]
+            for secret in (*secrets, *keys, *hashes, "gesture-key"):
+                self.assertNotIn(secret.encode(), data)
+            self.assertEqual(file.stat().st_mode & 0o777, 0o600)
+            self.a6.kill()
+        status, _, why = await self.road("Ada", "export", str(files[0]), LIVE=str(self.a6.folder))
+        self.assertEqual((status, why), (1, f"{files[0]} exists already: remove it, or give another file"))
 
     async def test_the_clock_is_set_and_seats_are_listed(self) -> None:
         self.assertEqual(await self.road("cron", "clock", "0:10"), (0, "the clock is at 00:10", ""))

@@ -504,7 +504,7 @@ class Stalled(Case):
         await self.looks(2)
         second._peers.known.clear()
         await soon(first.announce())
-        first._send_missing("another", {}, "")
+        first._send_missing("another", [(None, "")], "")
         told = [one for one in bus.sent if one.topic.endswith("operations")]
         self.assertEqual([len(json.loads(one.payload)["operations"]) for one in told], [2])  # what is on the disk
         bus.sent = [one for one in bus.sent if one not in told]

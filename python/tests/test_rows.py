@@ -6,10 +6,54 @@ import sys
 import unittest
 
 from test_page import TOP, find_python
-from zegdrut import Plan, RoadLab, measure_traffic
+from zegdrut import measure_traffic
 from zegdrut.program.rows import Sums, to_array, add_up
 
 ROWS = ["0..2.#", "9.1..."]
+
+
+ALL_ROWS = '''
+from zegdrut import Plan, RoadLab
+for length, to in ((60, 2_500), (8_192, 700)):
+    plan = Plan(length=length, inlets=[(0, 30_000), (length // 2, 60_000)], zones=[(9, 2_000)])
+    with RoadLab(plan) as lab:
+        lab.edit("A", ("block", length - 5), 100, 1)
+        lab.advance("A", to)
+        rows = lab.diagram("A", 3, to)
+        assert len(rows) == to - 2
+        for cells in (None, (20, 50), (0, length), (0, 30), (30, length), (20, 21)):
+            for first, last in ((3, to + 1), (3, to), (5, 6), (257, 520)):
+                left, right = cells or (0, length)
+                seen = [cell for row in rows[first - 3:last - 3] for cell in row[left:right]]
+                cars = [int(cell) for cell in seen if cell.isdigit()]
+                found = lab.traffic("A", first, last, cells)
+                assert found == (len(cars) / len(seen), sum(cars) / len(seen), sum(cars) / len(cars) if cars else None), (cells, first, last)
+        for wrong in ((5, 5, None), (5, 9, (7, 7))):
+            try:
+                lab.traffic("A", *wrong)
+                raise AssertionError("no error")
+            except ValueError as fault:
+                assert str(fault) == "there are no cells or no rows"
+print("as expected")
+'''
+ARRAYS = '''
+import tracemalloc, numpy
+from zegdrut import Plan, RoadLab, to_array
+with RoadLab(Plan(length=8_192, inlets=[(0, 30_000)], zones=[(4, 9_000)])) as lab:
+    lab.edit("A", ("block", 100), 100, 1)
+    lab.advance("A", 4_100)
+    rows = lab.diagram("A", 3, 4_002)
+    for make in (lambda: lab.array("A", 3, 4_002), lambda: to_array(rows)):
+        tracemalloc.start()
+        found = make()
+        peak = tracemalloc.get_traced_memory()[1]
+        tracemalloc.stop()
+        assert peak < 1.5 * found.nbytes, peak / found.nbytes
+        assert found.dtype == numpy.int8 and found.shape == (4_000, 8_192)
+        assert all(found[step].tolist() == [-1 if cell == "." else -2 if cell == "#" else int(cell) for cell in rows[step]] for step in range(0, 4_000, 97))
+    assert lab.array("A", 9, 8).shape == (0, 8_192)
+print("as expected")
+'''
 
 
 class Rows(unittest.TestCase):
@@ -23,13 +67,18 @@ class Rows(unittest.TestCase):
                 measure_traffic(rows)
 
     def test_all_rows(self) -> None:
-        """Compare the traffic of all rows with the diagram, over several pieces."""
-        with RoadLab(Plan(length=60, inlets=[(0, 30_000)], zones=[(4, 9_000)])) as lab:
-            lab.advance("A", 2_500)
-            rows = lab.diagram("A", 3, 2_500)
-            self.assertEqual(len(rows), 2_498)
-            self.assertEqual(lab.traffic("A", 3, 2_500, (20, 50)), measure_traffic(rows[:-1], 20, 50))
-            self.assertEqual(lab.traffic("A", 3, 2_501), measure_traffic(rows))
+        """Compare the traffic of all rows with the diagram, over several pieces, with numpy and without it."""
+        for python in {sys.executable, find_python("numpy") or sys.executable}:
+            ran = subprocess.run([python, "-c", ALL_ROWS], capture_output=True, text=True, check=False, cwd=TOP)
+            self.assertEqual((ran.returncode, ran.stdout), (0, "as expected\n"), ran.stderr)
+
+    def test_arrays_of_labs(self) -> None:
+        """Compare with `to_array`; the memory at the peak is at most one and a half times the array."""
+        python = find_python("numpy")
+        if python is None:
+            self.skipTest("numpy not installed")
+        ran = subprocess.run([python, "-c", ARRAYS], capture_output=True, text=True, check=False, cwd=TOP)
+        self.assertEqual((ran.returncode, ran.stdout), (0, "as expected\n"), ran.stderr)
 
     def test_arrays(self) -> None:
         """Check the smallest type that holds all speeds and both marks, with a Python that has numpy."""

@@ -78,6 +78,7 @@ class Tables(unittest.TestCase):
         self.assertEqual([row["text"] for row in rows], ["007", "nan", "1e5", "nan"])
         self.assertEqual(rows[2]["profile"], Series([2.5, 0.5, 1.0], ("cell",)))
         sweep(model, points[:1], (1, 2), out=self.out)
+        self.assertEqual(sweep(model, points[:1], (1, 2), out=self.out).rows, rows[:2])
         self.assertEqual(sweep(model, points, (1, 2), out=self.out).rows, rows)
         self.assertEqual(load(self.out).rows, rows)
         self.assertEqual((rows[0]["y_half"], rows[0]["y ±"]), (1, 1))

@@ -15,6 +15,7 @@ from __future__ import annotations
 
 import importlib
 import os
+import signal
 import sys
 from typing import Callable, Sequence
 
@@ -30,8 +31,7 @@ def main(words: Sequence[str] | None = None) -> int:
     if command == "program":
         return run(show_program)
     if command in COMMANDS:
-        module = importlib.import_module(f"zegdrut.commands.{command}")
-        return run(lambda: int(module.main(rest)))
+        return run(lambda: int(importlib.import_module(f"zegdrut.commands.{command}").main(rest)))
     if command in ("-h", "--help"):
         print((__doc__ or "").strip())
         return 0
@@ -41,6 +41,7 @@ def main(words: Sequence[str] | None = None) -> int:
 
 def run(command: Callable[[], int]) -> int:
     """Run a command. Return its exit status, also after Ctrl-C or if the reader of its output has gone."""
+    signal.signal(signal.SIGINT, signal.default_int_handler)
     try:
         status = command()
         sys.stdout.flush()

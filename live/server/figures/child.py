@@ -19,11 +19,13 @@ import sys
 from typing import AsyncIterator, Callable, Generic, Iterable, Mapping, TypeVar
 
 from .. import LIVE
+from ..background.settings import Settings
 from ..journal.journal import to_json
 from ..roads.program import LONGEST_REPLY, command_ending_with_parent
 from ..tabs.refusals import Refused
 
 PATIENCE = 600.0  # seconds that a question may take
+GIVES_WAY = Settings.read().gives_way
 RUNNING = asyncio.Semaphore(1)
 WAITING_SEATS: list[int] = []  # seats for which a road is being simulated for figures or files, or will be
 MOST_WAITING_SEATS = 8
@@ -48,7 +50,7 @@ class Child(Generic[Q, A]):
     """A process that runs a module of this package. It starts with the first question, and again if it has ended."""
 
     def __init__(self, module: str, nice: int, patience: float | None = PATIENCE) -> None:
-        self._module, self._nice, self._patience, self._path = module, nice, patience, ""
+        self._module, self._nice, self._patience, self._path = module, nice if GIVES_WAY else 0, patience, ""
         self._process: asyncio.subprocess.Process | None = None
         self._closed = 0  # how often it was closed
 
@@ -119,7 +121,8 @@ def serve(answer: Callable[[Q], Iterable[A]]) -> None:
     """Answer the question on each line of standard input."""
     from zegdrut import Fault
     processors = sorted(os.sched_getaffinity(0))
-    os.sched_setaffinity(0, processors[1:] or processors)  # one processor is left to the server and its program
+    if GIVES_WAY:
+        os.sched_setaffinity(0, processors[1:] or processors)  # one processor is left to the server and its program
     for line in sys.stdin:
         try:
             for result in answer(json.loads(line)):

@@ -6,7 +6,7 @@ from __future__ import annotations
 
 from ..model.operations import SEATS, Json, Operation, RawName, Shape, Stamp, is_raw
 from ..model.reading import MOST_OBJECTS, read_operation, why_too_large
-from ..tabs.refusals import Refused, not_a_command
+from ..tabs.refusals import Refused
 
 from zegdrut.program.grammar import KINDS, LAST_STEP
 from zegdrut.program.refusals import Reasons
@@ -28,11 +28,7 @@ class Checks:
         return one
 
     def check_operation(self, one: Operation) -> None:
-        """Raise `Refused` if an operation does not fit this plan, is larger than the limits allow, or undoes an operation and does
-        something else, too. An undo is listed only in the lines of what it undoes, so the layers that it set would be in no list."""
-        if one.undoes is not None and (one.names or one.excludes is not None):
-            raise not_a_command(f"the operation {list(one.stamp)} undoes another one, so it must do nothing else: make two operations "
-                                "of it")
+        """Raise `Refused` if an operation does not fit this plan, or is larger than the limits allow."""
         objects = sum(shape.last - shape.first + 1 for name, shape in one.sets.items() if shape is not None and not is_raw(name))
         if objects > MOST_OBJECTS:
             raise Refused("TooManyObjects", f"the shapes of an operation can cover at most {MOST_OBJECTS} objects, not {objects}: make "

@@ -38,6 +38,10 @@ P = ParamSpec("P")
 T = TypeVar("T")
 
 
+class ServerRuns(CannotStart):
+    """Another server uses the folder."""
+
+
 class NotWritten(Exception):
     """An entry could not be written to the disk."""
 
@@ -77,7 +81,7 @@ def open_locked(path: Path) -> int:
     try:
         lock_file(file, path.parent)
         if os.fstat(file).st_ino != os.stat(path).st_ino:  # another server has replaced the file in the meantime
-            raise CannotStart(f"another server was running in {path.parent} until a moment ago: try again")
+            raise ServerRuns(f"another server was running in {path.parent} until a moment ago: try again")
     except BaseException:
         os.close(file)
         raise
@@ -88,7 +92,7 @@ def lock_file(file: int, folder: Path) -> None:
     try:
         fcntl.flock(file, fcntl.LOCK_EX | fcntl.LOCK_NB)
     except BlockingIOError:
-        raise CannotStart(f"another server is running in {folder}: stop it, or use another folder") from None
+        raise ServerRuns(f"another server is running in {folder}: stop it, or use another folder") from None
 
 
 def is_read_only(fault: OSError) -> bool:

@@ -131,6 +131,10 @@ class Lab:
         """Undo an operation."""
         def make_operation(seat: SeatReplica, new: Stamp, about: About) -> Operation:
             undone = self._find_operation(seat, stamp)
+            root = seat.road.record.root_of(undone)
+            if root.excludes is not None and root.site != self.state.site:
+                raise Refused("NothingToUndo", f"only site {root.site} can undo its own exclusion of site {root.excludes[0]}: include "
+                              "that site again instead")
             if not would_change(seat.road, undone):
                 raise Refused("NothingToUndo", self._why_nothing(seat, undone))
             return undo(new, undone, about)

@@ -45,10 +45,21 @@ def read_operation(value: Json) -> Operation:
                         read_optional(value, "seen", read_stamp), about)
     except ValueError as fault:
         raise Malformed(str(fault)) from None
-    fault_of_size = why_too_large(one)
-    if fault_of_size or one.is_empty:
-        raise Malformed(fault_of_size or "the operation does nothing")
+    too_much = why_too_large(one) or why_too_much(one)
+    if too_much or one.is_empty:
+        raise Malformed(too_much or "the operation does nothing")
     return one
+
+
+def why_too_much(one: Operation) -> str | None:
+    """Return a sentence that says that an undo or an exclusion does something else, too; None if it does not. They are listed only in the
+    lines of what they undo and of the site, so layers that they set would be in no list; and an exclusion counts although its site is
+    excluded."""
+    if one.undoes is not None and (one.names or one.excludes is not None):
+        return f"the operation {list(one.stamp)} undoes another one, so it must do nothing else: make two operations of it"
+    if one.excludes is not None and (one.names or one.seen is not None):
+        return f"the operation {list(one.stamp)} excludes a site or includes it, so it must do nothing else: make two operations of it"
+    return None
 
 
 def read_kept_operation(value: Json) -> Operation:

@@ -199,13 +199,14 @@ def is_standing(road: Road, line: Stamp) -> bool:
     return line in road.layers or line in road.members
 
 
-def last_setter(road: Road, line: Stamp) -> Stamp | None:
-    """Return the stamp of the operation that gave a line its present shape; None if no operation did. A new change of the line has it as
-    `seen`."""
+def last_change(road: Road, line: Stamp) -> Stamp | None:
+    """Return the stamp of the operation that gave a line its present shape, or of the latest undo if that left the line without one; None
+    if the line has no operation. A new change of the line has it as `seen`."""
     setter = road.setter(line)
     if setter is not None:
         return setter.stamp
-    return line if line in road.record.held else None
+    undos = [each.stamp for one in road.setters_of(line) for each in road.record.undos_of(one) if road.record.counts(each)]
+    return max(undos, default=line if line in road.record.held else None)
 
 
 def change(road: Road, stamp: Stamp, line: Stamp, shape: Shape | None, on_top: bool = False,
@@ -215,7 +216,7 @@ def change(road: Road, stamp: Stamp, line: Stamp, shape: Shape | None, on_top: b
     sets: dict[Name, Shape | None] = {name: None for name in sorted(parts_of(road, line))}
     sets[line] = shape
     is_lifted = shape is not None and (on_top or not is_standing(road, line))
-    return Operation(stamp, sets, {line: stamp} if is_lifted else {}, seen=last_setter(road, line), about=about)
+    return Operation(stamp, sets, {line: stamp} if is_lifted else {}, seen=last_change(road, line), about=about)
 
 
 def repeat(road: Road, stamp: Stamp, old: Operation, about: About = NOTHING) -> Operation:

@@ -45,7 +45,7 @@ class BadPlan(Exception):
 def command_of(path: str, plan: Mapping[str, object]) -> list[str]:
     """Return the command that starts the program at a path, with two threads if the road is long."""
     length = plan.get("length")
-    pays = isinstance(length, int) and length >= LONG_ROAD and (os.cpu_count() or 1) > 2
+    pays = isinstance(length, int) and length >= LONG_ROAD and len(os.sched_getaffinity(0)) > 2
     return [path, "--workers", "2"] if pays else [path]
 
 

@@ -6,7 +6,8 @@ from typing import Mapping
 
 from ..journal.journal import to_json
 from ..model.operations import Json
-from ..model.reading import clean_text
+from ..model.reading import Malformed, clean_text, read_row, read_stamp
+from .sums import MOST_RANGES, Bound
 
 LONGEST_HASH = 40
 NUMBERS = range(1, 1_024)
@@ -34,15 +35,27 @@ def site_of(folder: str, value: Mapping[str, Json]) -> tuple[str, str, int, str]
     return token_of(folder or said), clean_text(run or "", 40), number, clean_text(road, 40)
 
 
-def sum_of(folder: str, value: Mapping[str, Json]) -> tuple[str, str, dict[str, str]]:
-    """Return folder, hash of all operations, and hashes by number in stamps, from a message. `folder` is the sender that the seal names,
+def sum_of(folder: str, value: Mapping[str, Json]) -> tuple[str, str, list[tuple[Bound, str]]]:
+    """Return folder, hash of all operations, and hashes by ranges of stamps, from a message. `folder` is the sender that the seal names,
     or empty."""
-    said, theirs, numbers = map(value.get, ("folder", "sum", "numbers"))
-    hashes = {name: one for name, one in numbers.items() if isinstance(one, str)} if isinstance(numbers, dict) else None
-    if type(said) is not str or type(theirs) is not str or hashes != numbers or hashes is None or any(
-            len(one) > LONGEST_HASH for one in hashes.values()):
+    said, theirs, written = map(value.get, ("folder", "sum", "ranges"))
+    if type(said) is not str or type(theirs) is not str or not isinstance(written, list) or not 1 <= len(written) <= MOST_RANGES:
         raise InvalidMessage("it has no valid hash of the site's operations")
-    return token_of(folder or said), clean_text(theirs, LONGEST_HASH), hashes
+    try:
+        rows = [read_row(one, 2, "a range must be a stamp and a hash") for one in written]
+        ranges = [(read_stamp(begin) if place else None, read_hash(one)) for place, (begin, one) in enumerate(rows)]
+    except Malformed as fault:
+        raise InvalidMessage(f"it has no valid hash of the site's operations: {fault}") from None
+    begins = [begin for begin, _ in ranges if begin is not None]
+    if rows[0][0] is not None or any(one >= other for one, other in zip(begins, begins[1:])):
+        raise InvalidMessage("the ranges of its hashes are not in order")
+    return token_of(folder or said), clean_text(theirs, LONGEST_HASH), ranges
+
+
+def read_hash(value: Json) -> str:
+    if not isinstance(value, str) or len(value) > LONGEST_HASH:
+        raise Malformed("a hash must be a short string")
+    return value
 
 
 def token_of(folder: str) -> str:

@@ -135,6 +135,11 @@ class Peers:
         return [site for site in self.known.values() if site.road == self._road and not site.is_silent
                 and site.form == SITE_FORM and site.number != self._keeper.state.site]
 
+    def is_connected(self, folder: str) -> bool:
+        """Return whether another folder has announced itself a moment ago."""
+        self.forget_silent()
+        return folder in self.known
+
     def has_heard(self, folder: str) -> bool:
         """Return whether a folder is known: it is connected, or a number is bound to it. (The broker's thread calls this, too.)"""
         return folder in self.known or folder in [*self._keeper.state.bound.values()]

@@ -24,7 +24,6 @@ from ..journal.keeper import SHARED
 from ..journal.lab import FutureStamp, Lab
 from ..journal.state import SITE_FORM, State
 from ..model.operations import Json, Operation, Unreadable
-from ..model.projection import Edits
 from ..model.reading import LONGEST_NOTE, Malformed, clean_text
 from ..model.road import Road
 from ..roads.program import Times
@@ -34,6 +33,7 @@ from .floods import FLOOD, STRANGERS, UNSEALED, Floods, drop_oldest
 from .messages import InvalidMessage, form_of, read_message, site_of, sum_of
 from .peers import ANNOUNCE_EVERY, BrokerState, Peers, Site
 from .seals import LATE, Replayed, Expired, Seal, Unsealed, key_of
+from .sums import Bound, Sums, hash_of_edits, is_between
 
 if TYPE_CHECKING:
     import paho.mqtt.client as mqtt
@@ -45,7 +45,6 @@ READ_FOR = 0.002  # seconds of processor time for reading operations, until othe
 MOST_SENTENCES, MOST_STAY = 5, 20  # sentences that are shown: said once, and true at present
 MOST_EARLY, LONGEST_EARLY = 1_000, 2_000_000  # operations that wait until their day comes, and their bytes
 SITES_TOPIC = "road/sites"
-TOTAL = "all"  # next to the numbers in `numbers`: the hash of all operations
 LATE_SAID = (f"Messages that are more than {LATE / 60:.0f} minutes old by this site's clock were ignored: compare the clocks of the "
              "sites. The changes will be sent again")
 SENDERS = {STRANGERS: "A sender that names no folder", UNSEALED: "A sender without this site's --site-key"}
@@ -79,7 +78,8 @@ class Sites:
         self._taking: asyncio.Future[None] | None = None
         self._floods = Floods()
         self._left_out = 0  # messages without a valid seal
-        self._counted: tuple[State, int, dict[str, int]] = lab.state, 0, {}  # the operations that are in the hashes, and these
+        self._counted: tuple[State, int, Sums] = lab.state, 0, Sums()  # how many operations are in the hashes, and these
+        self._may_answer = True  # a piece of missing operations was not sent since the last announcement
         self._hashed: tuple[Road, str] | None = None  # a road, and the hash of its values
         self._client = self._new_client()
         self._tasks: list[asyncio.Task[None]] = []
@@ -274,9 +274,10 @@ class Sites:
             await asyncio.wait([self._taking], timeout=ANNOUNCE_EVERY)  # the disk may never answer
         unsent = self._keeper.state.unsent
         self._sent = {one: when for one, when in self._sent.items() if one in unsent}
+        self._may_answer = True
         if self._peers.may_send():
-            numbers = self._hash_numbers()
-            self._publish(f"road/{self._road}/sum", {"form": SITE_FORM, "sum": numbers[TOTAL], "numbers": numbers,
+            sums = self._sum_up()
+            self._publish(f"road/{self._road}/sum", {"form": SITE_FORM, "sum": sums.total, "ranges": sums.ranges(),
                                                      "timeline": await self._hash_road()}, 0)
         self._tell()
 
@@ -286,22 +287,17 @@ class Sites:
         road = self._keeper.road(SHARED)
         if self._hashed is None or self._hashed[0] is not road:
             edits = await self._keeper.differences.between(self._keeper.state.empty, road)
-            self._hashed = road, await self._loop.run_in_executor(None, hash_of, edits)
+            self._hashed = road, await self._loop.run_in_executor(None, hash_of_edits, edits)
         return self._hashed[1]
 
-    def _hash_numbers(self) -> dict[str, str]:
-        """Return a hash of the operations of each number in stamps, so that a site sends only those that may be missing; and a hash of
-        all operations."""
+    def _sum_up(self) -> Sums:
+        """Return the hashes of the operations on the shared road that are on the disk."""
         state = self._keeper.state
         if self._counted[0] is not state:
-            self._counted = state, 0, {}
-        _, counted, sums = self._counted
-        for operation in state.shared.operations(counted, self._keeper.confirmed):
-            one = hashlib.sha256(operation.text().encode()).hexdigest()
-            for number in (str(operation.stamp[1]), TOTAL):
-                sums[number] = (sums.get(number, 0) + int(one[:16], 16)) % (1 << 64)
-        self._counted = state, self._keeper.confirmed, sums
-        return {TOTAL: "0", **{number: f"{found:x}" for number, found in sums.items()}}
+            self._counted = state, 0, Sums()
+        self._counted[2].add(state.shared.operations(self._counted[1], self._keeper.confirmed))
+        self._counted = state, self._keeper.confirmed, self._counted[2]
+        return self._counted[2]
 
     # What comes
 
@@ -375,8 +371,8 @@ class Sites:
                 began = thread_time()
         self._count_work(folder, thread_time() - began)
         if faults:
-            several = f"{len(faults)} operations of a message were ignored. The first" if faults[1:] else "An operation of a message was ignored"
-            self._say(f"{several}: {faults[0]}")
+            several = f"{len(faults)} operations of a message were ignored. The first: "
+            self._say((several if faults[1:] else "An operation of a message was ignored: ") + faults[0])
         return good
 
     def _keep_early(self, one: Operation) -> None:
@@ -416,35 +412,35 @@ class Sites:
             self._report_ignored(fault)
 
     async def _receive_hash(self, folder: str, value: Mapping[str, Json]) -> None:
-        folder, theirs, numbers = sum_of(folder, value)
-        if folder == self._id or not self._peers.may_send() or form_of(value) != SITE_FORM:
+        folder, theirs, ranges = sum_of(folder, value)
+        if not self._peers.is_connected(folder) or not self._peers.may_send() or form_of(value) != SITE_FORM:
             return
-        ours = self._hash_numbers()[TOTAL]
+        ours = self._sum_up().total
         pair_now = theirs, ours
         before = self._sums.pop(folder, None)
         self._sums[folder] = pair_now
         drop_oldest(self._sums)
         if theirs == ours:
             self._pauses.pop(folder, None)
-            if value.get("timeline") != await self._hash_road() and self._hash_numbers()[TOTAL] == ours:
+            if value.get("timeline") != await self._hash_road() and self._sum_up().total == ours:
                 self._say(f"{self._peers.describe_site(folder)} has the same changes but computes a different road from them: its server "
                           f"has a different version. Update the older of the two")
-        elif before == pair_now or folder in self._pauses and self._pauses[folder].place:
-            self._send_missing(folder, numbers, ours)
+        elif self._may_answer and (before == pair_now or folder in self._pauses and self._pauses[folder].place):
+            self._send_missing(folder, ranges, ours)
 
-    def _send_missing(self, folder: str, numbers: dict[str, str], held: str) -> None:
-        """Send a folder a piece of the operations that it may lack. The next piece follows at its next announcement. After the last piece,
-        begin again after a pause, which grows each time."""
+    def _send_missing(self, folder: str, ranges: Sequence[tuple[Bound, str]], held: str) -> None:
+        """Send a folder a piece of the operations of the ranges in which it holds others. Nobody gets another piece until this site's next
+        announcement. After the last piece, begin again after a pause, which grows each time."""
         now = time.monotonic()
         last = self._pauses.pop(folder, Pause(0.0, 0.0, 0, held))
         place, pause = last.place, last.long if last.held == held else min(last.long, ANNOUNCE_EVERY)
         if not place and now < last.told + pause:
             self._pauses[folder] = last
             return
-        own = self._hash_numbers()
-        other = {number for number, found in own.items() if numbers.get(number) != found}
+        other = self._sum_up().differing(ranges)
         lacking = sorted((one for one in self._keeper.state.shared.operations(0, self._keeper.confirmed)
-                          if str(one.stamp[1]) in other), key=lambda one: one.stamp)
+                          if any(is_between(one.stamp, begin, end) for begin, end in other)), key=lambda one: one.stamp)
+        self._may_answer = False
         logging.info("another site holds different operations: sending it %d to %d of %d", place,
                      min(place + OPERATIONS_AT_ONCE, len(lacking)), len(lacking))
         self._send(lacking[place:place + OPERATIONS_AT_ONCE])
@@ -452,8 +448,3 @@ class Sites:
         self._pauses[folder] = (Pause(now, pause, place + OPERATIONS_AT_ONCE, held) if has_more
                                 else Pause(now, min(LONGEST_RESEND_PAUSE, max(ANNOUNCE_EVERY, 2 * pause)), 0, held))
         drop_oldest(self._pauses)
-
-
-def hash_of(edits: Edits) -> str:
-    """Return a hash of the edits of a road, which have no stamps."""
-    return hashlib.sha256(to_json(sorted([*name, value] for name, value in edits.items())).encode()).hexdigest()[:16]

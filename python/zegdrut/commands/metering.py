@@ -249,6 +249,7 @@ def compare(given: argparse.Namespace, out: Path) -> None:
         titles = [f"seed {figures.seed}", "as it was", f"with metering from {figures.clock.to_text(start)} on"]
         write_tables(folder, site, f"seed {figures.seed}",
                      {"as-if": make_day_table(compare_runs(site, [both]), titles), "as-if-minutes": make_minute_table(site, both)})
+        print(f"The tables are in {folder}", file=sys.stderr)
         return
     print("".join(f"{one}\n" for one in warn_few_days(given.days)), end="", file=sys.stderr, flush=True)
     bar = Bar("days", in_log=True)
@@ -267,7 +268,6 @@ def write_tables(folder: Path, site: Site, days: str, tables: dict[str, Table], 
         write_csv(folder / f"{name}-{site.name}-{format_window(clock, steps)}.csv", f"{make_title(site.name, clock, steps)}, {days}", rows)
     if is_printed:
         print("\n".join(format_csv(next(iter(tables.values())))))
-    print(f"The tables are in {folder}", file=sys.stderr)
 
 
 def read_arguments(words: Sequence[str] | None) -> argparse.Namespace:

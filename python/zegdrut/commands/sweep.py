@@ -18,6 +18,8 @@
     --unit NAME=UNIT     the unit of a parameter or a figure; once for each
     --program PATH       the program of the runs, by default the one that `python3 -m zegdrut program` prints
     --timeout SECONDS    end a run that takes longer; it counts as failed
+    --dask ADDRESS       run by the Dask workers of a scheduler, tcp://HOST:8786
+    --ship               send the program and this package to workers that lack them
     --again FILE.json    make the table again that lies beside FILE.json, in --out (default: NAME.again.csv), and compare both
 
 The function is called with the parameters of a point by name. Without --measure it also gets `seed`, and returns figures by name. The
@@ -27,14 +29,16 @@ FILE.failed. Status 1: a run failed, or a table has results of another model, me
 from __future__ import annotations
 
 import argparse
+import contextlib
 import importlib
 import importlib.util
 import signal
 import sys
 import time
+from concurrent.futures import Executor
 from pathlib import Path
 from types import FrameType
-from typing import Mapping, Sequence, cast
+from typing import Iterator, Mapping, Sequence, cast
 
 from ..program.bars import Bar
 from ..program.errors import Fault, LabError, describe_error
@@ -172,6 +176,8 @@ def read_arguments(words: Sequence[str] | None) -> argparse.Namespace:
     parser.add_argument("--unit", action="append", default=[], metavar="NAME=UNIT")
     parser.add_argument("--program", metavar="PATH")
     parser.add_argument("--timeout", type=float, metavar="SECONDS")
+    parser.add_argument("--dask", metavar="ADDRESS")
+    parser.add_argument("--ship", action="store_true")
     parser.add_argument("--again", type=Path, metavar="FILE.json")
     given = parser.parse_args(words)
     if (given.model is None) == (given.again is None):
@@ -223,6 +229,24 @@ def find_again(given: argparse.Namespace, about: About) -> tuple[str, Named, Seq
     return about.model, about.measure, about.points, about.seeds
 
 
+@contextlib.contextmanager
+def open_executor(dask: str | None) -> Iterator[Executor | None]:
+    """Yield the executor of a Dask scheduler, or None. Fault: the package is missing, or there is no scheduler."""
+    if dask is None:
+        yield None
+        return
+    try:
+        distributed = importlib.import_module("distributed")
+    except ImportError:
+        raise Fault("dask.distributed is not installed: on Debian run `apt install python3-distributed`") from None
+    try:
+        client = distributed.Client(dask)
+    except (OSError, ValueError) as fault:
+        raise Fault(f"there is no Dask scheduler at {dask}: {fault}") from None
+    with client:
+        yield client.get_executor(pure=False)
+
+
 def compare_tables(one: Path, other: Path) -> bool:
     """Say whether two tables are the same. Return it."""
     is_same = one.exists() and one.read_bytes() == other.read_bytes()
@@ -246,9 +270,10 @@ def run_sweep(given: argparse.Namespace) -> int:
     shown = ProgressDisplay()
     signal.signal(signal.SIGTERM, raise_interrupt)
     try:
-        found = sweep(find_function(model), points, seeds, out=out, jobs=given.jobs, part=(part[0], part[1]), take=given.take,
-                      version=given.version, program=given.program, timeout=given.timeout, units=split_options("unit", given.unit),
-                      measure=find_measure(measure), named=(model, measure), progress=shown.show)
+        with open_executor(given.dask) as executor:
+            found = sweep(find_function(model), points, seeds, out=out, jobs=given.jobs, part=(part[0], part[1]), take=given.take,
+                          version=given.version, program=given.program, timeout=given.timeout, units=split_options("unit", given.unit),
+                          measure=find_measure(measure), named=(model, measure), progress=shown.show, executor=executor, ship=given.ship)
     except KeyboardInterrupt:
         shown.end()
         print(f"the finished runs are in {out}: the same command continues from there", file=sys.stderr)

@@ -22,7 +22,7 @@ import tempfile
 import threading
 import time
 from pathlib import Path
-from typing import IO, NamedTuple
+from typing import IO, Iterable, NamedTuple
 
 from .errors import Ended, LabBroken, LabCancelled, LabTimeout, Refused
 from .programs import NoProgram
@@ -39,6 +39,8 @@ GUARD = ("setpriv", "--pdeathsig", "KILL", "--")
 """The command that has the kernel kill a program when the thread that started it ends (PR_SET_PDEATHSIG of `man prctl`)."""
 HEADS = (b"\x7fELF", b"#!")
 """The first bytes of programs and of scripts."""
+ROWS = b'{"rows":["'
+"""The first bytes of a reply with rows."""
 LOOK = 1.0
 """The seconds without a reply after which a caller checks that the thread still runs."""
 
@@ -63,10 +65,11 @@ class Deadline(NamedTuple):
 class Request:
     """A line for the program, and its reply once it has come."""
 
-    __slots__ = ("line", "text", "reply", "fault", "done")
+    __slots__ = ("line", "text", "wants_rows", "rows", "reply", "fault", "done")
 
-    def __init__(self, line: Fields, text: bytes) -> None:
+    def __init__(self, line: Fields, text: bytes, wants_rows: bool = False) -> None:
         self.line, self.text = line, text
+        self.wants_rows, self.rows = wants_rows, b""  # a reply with rows is then not parsed, and `rows` is its line
         self.reply: Reply = {}
         self.fault: BaseException | None = None
         self.done = threading.Lock()
@@ -77,14 +80,13 @@ class Request:
         with contextlib.suppress(RuntimeError):
             self.done.release()
 
-    def result(self) -> Reply:
-        """Return the reply, or raise the exception of the thread."""
+    def raise_fault(self) -> None:
+        """Raise the exception of the thread, if there was one."""
         if self.fault is not None:
             try:
                 raise self.fault
             finally:
                 self.fault = None  # (otherwise the exception and its traceback refer to each other)
-        return self.reply
 
 
 class Conversation:
@@ -116,22 +118,35 @@ class Conversation:
         Refused: the program refuses the line. NoProgram: there is no program. LabBroken: the program has ended, or the
         conversation was closed. LabTimeout: there was no reply before the deadline. LabCancelled: the call was cancelled.
         """
+        return self.finish(self.begin(Request(line, text), deadline), deadline).reply
+
+    def begin(self, request: Request, deadline: Deadline) -> Request:
+        """Send a request, whose reply `finish` returns. Several may be sent at once."""
         if os.getpid() != self._owner:
             raise LabBroken("this lab belongs to the process that started it")
-        request = Request(line, text)
         self._waiting.add(request)
+        if self._cancels != deadline.cancels:
+            self._waiting.discard(request)
+            raise LabCancelled
+        self._requests.put(request)
+        return request
+
+    def finish(self, request: Request, deadline: Deadline) -> Request:
+        """Return a request with its reply, or raise its exception."""
         try:
-            if self._cancels != deadline.cancels:
-                raise LabCancelled
-            self._requests.put(request)
             while not request.done.acquire(timeout=max(0.0, min(LOOK, deadline.until - time.monotonic()))):
                 if not self._thread.is_alive() and not request.done.acquire(blocking=False):
                     raise self._cause()
                 if time.monotonic() >= deadline.until:
                     raise LabTimeout(f"no reply within {deadline.seconds:g} s: the program continues, and the next call waits for that")
-            return request.result()
+            request.raise_fault()
+            return request
         finally:
             self._waiting.discard(request)
+
+    def forget(self, requests: Iterable[Request]) -> None:
+        """Do not wait for requests that were sent. Their replies are read and dropped."""
+        self._waiting.difference_update(requests)
 
     def cancel(self) -> None:
         """Cancel all calls that have begun. Each raises `LabCancelled`."""
@@ -168,6 +183,9 @@ class Conversation:
         self._check_silence(process)
         self._write(process, request.text + b"\n")
         text = self._read_line(process)
+        if request.wants_rows and text.startswith(ROWS):
+            request.rows = text
+            return {}
         try:
             reply = json.loads(text)
             if not isinstance(reply, dict):
@@ -203,7 +221,7 @@ class Conversation:
                             raise OSError(errno.ENOEXEC, os.strerror(errno.ENOEXEC))
                     self._complaints = tempfile.TemporaryFile()
                     self._process = subprocess.Popen([*find_guard(), str(self._path)], stdin=subprocess.PIPE, stdout=subprocess.PIPE,
-                                                     stderr=self._complaints, bufsize=0, start_new_session=True)
+                                                     stderr=self._complaints, bufsize=0, start_new_session=True, pipesize=PIECE)
                 except OSError as fault:
                     raise self._break(LabBroken(f"{self._path} could not be started: {fault.strerror}")) from None
             return self._process

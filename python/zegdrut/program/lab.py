@@ -3,22 +3,28 @@ from __future__ import annotations
 
 import math
 import weakref
+from collections import deque
 from pathlib import Path
 from types import TracebackType
-from typing import Callable, Iterable, cast
+from typing import TYPE_CHECKING, Callable, Iterable, cast
 
 from .bars import Bar
 from .checks import encode_line, check_text, check_object, check_whole
-from .conversation import Conversation, Deadline
+from .conversation import Conversation, Deadline, Request
 from .grammar import LAST_HORIZON, MOST_ROWS
 from .plan import Plan
 from .programs import program_path, seconds_left
 from .records import Car, Count, Crowd, Edit, Head, Object, Stamp
-from .rows import Sums, Traffic, add_up
+from .rows import Rows, Sums, Traffic, check_numpy
 from .wire import (CarsReply, CellsReply, CountReply, CrowdReply, EditsReply, Fields, HeadsReply, HorizonReply, PlanLine, Reply,
                    RowsReply, SizeReply, StampReply, TouchedReply)
 
+if TYPE_CHECKING:
+    from .rows import Bytes
+
 FORM = 2
+BYTES_AT_ONCE = 1 << 21
+"""The bytes of rows that are read at a time."""
 
 
 class RoadLab:
@@ -168,7 +174,21 @@ class RoadLab:
 
     def diagram(self, at: str, first: int, to: int) -> list[str]:
         """Return the rows of the steps `first` to `to`, both included."""
-        return [row for rows in self._diagrams(at, first, to) for row in rows]
+        deadline = self._deadline()
+        return [row for fields in split_rows(at, first, to) for row in cast(RowsReply, self._ask({"diagram": fields}, deadline))["rows"]]
+
+    def array(self, at: str, first: int, to: int) -> Bytes:
+        """Return the rows of the steps `first` to `to`, both included, as `to_array` does, but without a string for each row.
+
+        ImportError: numpy is not installed.
+        """
+        check_numpy()
+        import numpy
+        found, place = numpy.empty((max(to - first + 1, 0), self.plan["length"]), dtype=numpy.int8), 0
+        for rows in self._rows(at, first, to):
+            rows.fill(found[place:place + rows.size()])
+            place += rows.size()
+        return found
 
     def traffic(self, at: str, first: int, to: int, cells: tuple[int, int] | None = None) -> Traffic:
         """Return density, flow and space-mean speed over the rows of the steps `first` to `to` - 1.
@@ -177,16 +197,23 @@ class RoadLab:
         """
         left, right = (0, None) if cells is None else cells
         found = Sums(0, 0, 0)
-        for rows in self._diagrams(at, first, to - 1):
-            found += add_up(rows, left, right)
+        for rows in self._rows(at, first, to - 1):
+            found += rows.add_up(left, right)
         return found.traffic()
 
-    def _diagrams(self, at: str, first: int, to: int) -> Iterable[list[str]]:
-        """Yield lists of rows, each as long as one diagram may be."""
-        first, to, deadline = check_whole("first", first), check_whole("to", to), self._deadline()
-        for start in range(first, to + 1, MOST_ROWS):
-            fields = {"from": start, "to": min(to, start + MOST_ROWS - 1)}
-            yield cast(RowsReply, self._command(deadline, "diagram", at, **fields))["rows"]
+    def _rows(self, at: str, first: int, to: int) -> Iterable[Rows]:
+        """Yield rows as the program writes them, some at a time. The program computes the next ones meanwhile."""
+        deadline, sent = self._deadline(), deque[Request]()
+        try:
+            for fields in split_rows(at, first, to, max(1, min(MOST_ROWS, BYTES_AT_ONCE // self.plan["length"]))):
+                line: Fields = {"diagram": fields}
+                sent.append(self._conversation.begin(Request(line, encode_line(line), wants_rows=True), deadline))
+                if len(sent) > 1:
+                    yield Rows.read(self._conversation.finish(sent.popleft(), deadline).rows)
+            while sent:
+                yield Rows.read(self._conversation.finish(sent.popleft(), deadline).rows)
+        finally:
+            self._conversation.forget(sent)
 
     # Apart from the replicas
 
@@ -195,3 +222,10 @@ class RoadLab:
         written = [[edit.to_line() for edit in share] for share in shares]
         left = cast(CrowdReply, self.command("crowd", shares=written, form=FORM, to=check_whole("to", to)))
         return Crowd(list(map(Edit.read, left["edits"])), left["journal"], left["row"])
+
+
+def split_rows(at: str, first: int, to: int, at_once: int = MOST_ROWS) -> Iterable[dict[str, object]]:
+    """Yield the fields of one `diagram` after another, for the steps `first` to `to`, `at_once` steps each."""
+    first, to = check_whole("first", first), check_whole("to", to)
+    for start in range(first, to + 1, at_once):
+        yield {"at": check_text("at", at), "from": start, "to": min(to, start + at_once - 1)}

@@ -28,6 +28,7 @@ CRATES = ROOT / "crates"
 PROVED = CRATES / "road_lab" / "out" / "road_lab"
 UNPROVED = PROVED.with_name("road_lab_unproved")
 _USED: contextvars.ContextVar[Path | str | None] = contextvars.ContextVar("program", default=None)
+_EXPECTED: contextvars.ContextVar[str | None] = contextvars.ContextVar("expected", default=None)
 _UNTIL = contextvars.ContextVar("until", default=math.inf)
 PARTS = ("src", "specs", "proofs")
 """The folders of a crate that determine the program."""
@@ -51,6 +52,15 @@ class NotProved(NoProgram):
     def __init__(self, path: Path | str) -> None:
         super().__init__(path)
         self.args = (f"no proved program at {path}: `tools/prove-program` proves and builds it",)
+
+
+class OtherProgram(NoProgram):
+    """The program at the path is not the one that the caller has."""
+
+    def __init__(self, path: Path | str) -> None:
+        super().__init__(path)
+        self.args = (f"the program at {path} is missing, or differs from the caller's: set ROAD_LAB there to the path of the same program, or "
+                     "send it with ship=True (--ship)",)
 
 
 @dataclass(frozen=True)
@@ -174,10 +184,18 @@ def program_path() -> Path:
     proved one or only the unproved one is up to date. Outside the repository it is `road_lab` on the PATH. If there is no
     program at all, it is the path that the proved one would have.
     """
-    path = find_program()
+    path, expected = find_program(), _EXPECTED.get()
+    if expected is not None and describe_once(path, path.stat().st_mtime_ns if path.exists() else 0) != expected:
+        raise OtherProgram(path)
     if path.exists():
         print_standing_once(path)
     return path
+
+
+@functools.cache
+def describe_once(path: Path, _: int) -> str:
+    """Return what `describe_program` says. (The time is a part of the cache key.)"""
+    return describe_program(path)
 
 
 def find_program() -> Path:
@@ -187,14 +205,37 @@ def find_program() -> Path:
 
 
 @contextlib.contextmanager
-def using_program(path: Path | str | None, timeout: float | None = None) -> Iterator[None]:
-    """Let labs that are opened in this block use a program, unless they name one, and end their calls after `timeout` seconds in all."""
+def using_program(path: Path | str | None, timeout: float | None = None, expected: str | None = None) -> Iterator[None]:
+    """Let labs that are opened in this block use a program, unless they name one, and end their calls after `timeout` seconds in all.
+
+    expected: the description of the program, by `describe_program`. If it differs, these labs raise `OtherProgram`.
+    """
     used, until = _USED.set(path or _USED.get()), _UNTIL.set(math.inf if timeout is None else time.monotonic() + timeout)
+    awaited = _EXPECTED.set(expected)
     try:
         yield
     finally:
         _USED.reset(used)
         _UNTIL.reset(until)
+        _EXPECTED.reset(awaited)
+
+
+def read_copy(path: Path) -> tuple[bytes, str | None]:
+    """Return a program and the text of its record, to write a copy elsewhere. NoProgram: it does not exist."""
+    record = path.with_name(path.name + ".made")
+    try:
+        return path.read_bytes(), record.read_text(encoding="utf-8") if record.exists() else None
+    except OSError:
+        raise NoProgram(path) from None
+
+
+def write_copy(path: Path, data: bytes, record: str | None) -> Path:
+    """Write a copy of a program with its record. Return its path."""
+    path.write_bytes(data)
+    path.chmod(0o755)
+    if record is not None:
+        path.with_name(path.name + ".made").write_text(record, encoding="utf-8")
+    return path
 
 
 def seconds_left() -> float:

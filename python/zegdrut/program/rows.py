@@ -1,16 +1,22 @@
 """Measure density, flow and space-mean speed from rows of a road, and convert rows to arrays."""
 from __future__ import annotations
 
-from typing import TYPE_CHECKING, Any, Iterable, NamedTuple, Sequence
+import importlib.util
+from typing import TYPE_CHECKING, Iterable, NamedTuple, Sequence
 
 if TYPE_CHECKING:
     import numpy
-    import numpy.typing
+    from numpy.typing import NDArray
+    Bytes = NDArray[numpy.int8]
 
 EMPTY, BLOCKED = -1, -2
 """The values of empty and of blocked cells in an array of rows."""
 FASTEST = 9
 """The highest speed, in cells per step."""
+WRONG = b"\x7f"
+"""The value of a character that no row has."""
+VALUES = bytes(code - ord("0") if chr(code) in "0123456789" else {".": EMPTY, "#": BLOCKED}.get(chr(code), WRONG[0]) & 255 for code in range(256))
+"""The value of each character, for `bytes.translate`."""
 NO_NUMPY = "numpy is not installed: on Debian run `apt install python3-numpy`, else `pip install numpy`"
 
 
@@ -50,7 +56,59 @@ def count_cars(row: str) -> int:
 def add_up(rows: Iterable[str], first: int = 0, last: int | None = None) -> Sums:
     """Return the sums over the cells `first` to `last - 1` of each row, to the end if `last` is None."""
     cells = "".join(row[first:last] for row in rows)
-    return Sums(count_cars(cells), sum(speed * cells.count(str(speed)) for speed in range(1, FASTEST + 1)), len(cells))
+    return count_digits(cells.encode("latin-1", "replace").translate(None, b".#"), len(cells))
+
+
+def count_digits(digits: bytes, area: int) -> Sums:
+    """Return the sums of cells, by the speeds of their cars."""
+    return Sums(len(digits), sum(speed * digits.count(b"%d" % speed) for speed in range(1, FASTEST + 1)), area)
+
+
+BEFORE, AFTER = len('{"rows":["'), len('","')
+"""The bytes before the first row of a reply, and the bytes after each row."""
+AT_ONCE = 64
+"""The rows that are added up at once, so that they stay in the processor's cache."""
+
+
+class Rows(NamedTuple):
+    """Rows as the program writes them, {"rows":["..","..",..]}, with the number of cells of each."""
+
+    line: bytes
+    length: int
+
+    @classmethod
+    def read(cls, line: bytes) -> Rows:
+        """Return the rows of a reply."""
+        return cls(line, line.index(b'"', BEFORE) - BEFORE)
+
+    def size(self) -> int:
+        """Return the number of rows."""
+        return (len(self.line) - BEFORE) // (self.length + AFTER)
+
+    def add_up(self, first: int, last: int | None) -> Sums:
+        """Return the sums over the cells `first` to `last - 1` of each row, to the end if `last` is None. With numpy it is faster."""
+        begin, end, _ = slice(first, last).indices(self.length)
+        area = self.size() * max(end - begin, 0)
+        try:
+            import numpy
+        except ImportError:
+            starts = range(BEFORE, len(self.line), self.length + AFTER) if end - begin < self.length else ()
+            cells = b"".join(self.line[start + begin:start + end] for start in starts) if starts else self.line[BEFORE:]
+            return count_digits(cells.translate(None, b'.#",]}'), area)
+        table, cars, speeds = numpy.frombuffer(self.line, dtype=numpy.uint8, offset=BEFORE).reshape(self.size(), -1)[:, begin:end], 0, 0
+        for start in range(0, len(table), AT_ONCE):
+            values = table[start:start + AT_ONCE] - ord("0")  # (unsigned: other characters become large numbers)
+            are_cars = values <= FASTEST
+            values *= are_cars
+            cars += int(numpy.count_nonzero(are_cars))
+            speeds += int(values.sum(axis=0, dtype=numpy.uint16).sum(dtype=numpy.int64))
+        return Sums(cars, speeds, area)
+
+    def fill(self, array: Bytes) -> None:
+        """Write the values of all cells into an array of steps by cells."""
+        import numpy
+        values = numpy.frombuffer(self.line.translate(VALUES), dtype=numpy.int8, offset=BEFORE)
+        array[:] = values.reshape(self.size(), -1)[:, :self.length]
 
 
 def measure_traffic(rows: Iterable[str], first: int = 0, last: int | None = None) -> Traffic:
@@ -58,23 +116,27 @@ def measure_traffic(rows: Iterable[str], first: int = 0, last: int | None = None
     return add_up(rows, first, last).traffic()
 
 
-def to_array(rows: Sequence[str]) -> numpy.typing.NDArray[numpy.int8]:
+def to_array(rows: Sequence[str]) -> Bytes:
     """Convert rows to an array of steps by cells. Each value is a byte: a car's speed in cells per step, EMPTY or BLOCKED.
 
     ImportError: numpy is not installed; only this function needs it. ValueError: the rows differ in length, or contain a
     character that is not a digit, "." or "#".
     """
-    try:
-        import numpy
-    except ImportError:
-        raise ImportError(NO_NUMPY) from None
-    if len({len(row) for row in rows}) > 1:
+    check_numpy()
+    import numpy
+    length = len(rows[0]) if len(rows) else 0
+    if any(len(row) != length for row in rows):
         raise ValueError("the rows differ in length")
-    values: Any = numpy.full(256, 127, dtype=numpy.int8)
-    values[[ord("."), ord("#")]] = EMPTY, BLOCKED
-    values[ord("0"):ord("9") + 1] = range(FASTEST + 1)
-    found = values[numpy.frombuffer("".join(rows).encode("latin-1", "replace"), dtype=numpy.uint8)]
-    if (found == 127).any():
-        raise ValueError("a row contains a character that is not a digit, \".\" or \"#\"")
-    array: numpy.typing.NDArray[numpy.int8] = found.reshape(len(rows), -1) if len(rows) else found.reshape(0, 0)
+    array: Bytes = numpy.empty((len(rows), length), dtype=numpy.int8)
+    for place, row in enumerate(rows):
+        values = row.encode("latin-1", "replace").translate(VALUES)
+        if WRONG in values:
+            raise ValueError("a row contains a character that is not a digit, \".\" or \"#\"")
+        array[place] = numpy.frombuffer(values, dtype=numpy.int8)
     return array
+
+
+def check_numpy() -> None:
+    """Raise an ImportError with what to do if numpy is not installed."""
+    if importlib.util.find_spec("numpy") is None:
+        raise ImportError(NO_NUMPY)

@@ -1,5 +1,6 @@
 """Run a model over many points and seeds, on all processors or by an executor, and write tables of results that say what made them."""
 from .about import About as About
+from .engine import NoWorker as NoWorker
 from .marks import Mark as Mark, OtherMark as OtherMark, Unknown as Unknown, make_mark as make_mark
 from .results import Column as Column, Row as Row, Series as Series, Value as Value
 from .runs import (

@@ -28,7 +28,7 @@ Named = Union[None, str, Dict[str, List[Union[int, List[int], None]]]]
 
 @dataclass
 class About:
-    """What made a table."""
+    """The record of what made a table."""
 
     table: str
     model: str | None

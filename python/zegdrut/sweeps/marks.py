@@ -258,6 +258,9 @@ class Walk:
         if is_installed(function.__code__.co_filename):
             return ("installed", self._installed(str(function.__globals__.get("__name__", ""))), function.__code__.co_name,
                     inner if function.__closure__ else ())
+        module = module_of(function)
+        if module is not None:
+            self._reach.note_module(module)
         return ("function", self._code(function.__code__, function.__globals__), inner)
 
     def _code(self, code: types.CodeType, names: dict[str, object]) -> Token:

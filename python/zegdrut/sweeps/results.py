@@ -30,7 +30,7 @@ class Series(NamedTuple):
     axes: tuple[str, ...]
 
     def shape(self) -> tuple[int, ...]:
-        """Return the length of each axis. Fault: the values are no array."""
+        """Return the length of each axis. Fault: the values are not an array."""
         return find_shape(self.values)
 
 

@@ -95,13 +95,16 @@ def runs(points: Points, seeds: Iterable[int] = (1,)) -> list[Run]:
     return found
 
 
-def run_one(model: Model, run: Run, measure: Measure | None = None, *, program: Path | str | None = None, timeout: float | None = None) -> Row:
+def run_one(model: Model, run: Run, measure: Measure | None = None, *, program: Path | str | None = None, timeout: float | None = None,
+            expected: str | None = None) -> Row:
     """Run a point with a seed. Return its figures.
 
     program: the program of its labs, by default the one that is found everywhere. timeout: the seconds for all calls of its labs.
-    Fault: the model returns something else than a `Plan` (with `measure`) or figures. LabTimeout: it takes longer.
+    expected: the description of the program that it must be, by `describe_program`.
+    Fault: the model returns something else than a `Plan` (with `measure`) or figures. LabTimeout: it takes longer. OtherProgram: the
+    program is not the expected one.
     """
-    with using_program(program, timeout):
+    with using_program(program, timeout, expected):
         return run_point(model, measure, run.point, run.seed)
 
 

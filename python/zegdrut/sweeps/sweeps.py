@@ -12,7 +12,9 @@
 """
 from __future__ import annotations
 
+import contextlib
 import time
+from concurrent.futures import Executor
 from dataclasses import dataclass
 from pathlib import Path
 from typing import TYPE_CHECKING, Callable, Iterable, Iterator, Mapping, NamedTuple, Sequence, cast
@@ -23,6 +25,7 @@ from ..program.plan import Plan
 from ..program.programs import program_path
 from ..program.wire import PlanLine
 from .about import About, Named, beside, describe_sweep, explain_change, find_kinds, find_name, now, read_about
+from .engine import run_by_executor
 from .marks import Mark, OtherMark, Unknown, make_mark
 from .pool import Outcome, run_in_parallel
 from .results import Column, Results, Row, Series, Value, format_cell, format_row, parse_table, read_rows, replace_file
@@ -103,7 +106,7 @@ def compute_means(rows: Sequence[Row], excluded: set[str]) -> Row:
 
 
 def load(path: Path | str) -> Sweep:
-    """Return the sweep of a table, or of the file beside it. Fault: the file beside it is missing, or it is no table."""
+    """Return the sweep of a table, or of the file beside it. Fault: the file beside it is missing, or it is not a table."""
     table = Path(path)
     table = table.with_name(table.name[:-len(".json")]) if table.name.endswith(".csv.json") else table
     if not beside(table).exists():
@@ -120,8 +123,9 @@ def load(path: Path | str) -> Sweep:
 def sweep(model: Model, points: Points, seeds: Iterable[int] = (1,), *, measure: Measure | None = None, out: Path | str | None = None,
           jobs: int | None = None, part: tuple[int, int] = (1, 1), take: Iterable[Path | str] = (), version: str | None = None,
           program: Path | str | None = None, timeout: float | None = None, units: Mapping[str, str] | None = None,
-          named: tuple[str, Named] | None = None, progress: Progress | None = None) -> Sweep:
-    """Run a model for each point and each seed, in `jobs` processes, by default one per processor.
+          executor: Executor | None = None, ship: bool = False, named: tuple[str, Named] | None = None,
+          progress: Progress | None = None) -> Sweep:
+    """Run a model for each point and each seed, in `jobs` processes, by default one per processor, or by an executor.
 
     With `measure`, `model(**point)` returns a `Plan`, whose seed is replaced, and `measure(lab)` returns the figures of its road.
     Without it, `model(seed=seed, **point)` returns the figures. A run that raises an exception or dies becomes a `Failure`; the
@@ -132,10 +136,12 @@ def sweep(model: Model, points: Points, seeds: Iterable[int] = (1,), *, measure:
     the same folder. part: (k, n): run only the k-th of n parts, to share a sweep among machines. take: files of other parts, whose rows
     are copied first. version: a string that stands for the source of the model; without it, `marks` finds what the model reaches.
     program: the program of the runs' labs. timeout: the seconds after which a run is ended and counts as failed. units: the unit of
-    each parameter or figure; `measure.unit` gives those that are not named. named: the model and the measurement as a command names them.
+    each parameter or figure; `measure.unit` gives those that are not named. executor: runs the runs, in the form of
+    `concurrent.futures`; then `timeout` holds for the calls of labs. ship: send this package and the program to its workers. named: the model and the measurement as a command names them.
 
     Fault: there are no points or seeds, or a file has different columns. OtherMark: a file has results of another model, measurement or
     program. Unknown: `version` is needed for a file. Nothing has been written then. NoProgram: a run needs a program, and there is none.
+    NoWorker: a worker of the executor cannot run the sweep.
     """
     listed = runs(points, seeds)
     if not 1 <= part[0] <= part[1]:
@@ -152,11 +158,14 @@ def sweep(model: Model, points: Points, seeds: Iterable[int] = (1,), *, measure:
     try:
         table.describe(named or (find_name(model) or "", name_measure(measure)), list_plans(model, listed) if measure else [], part, version)
         missing = [number for number in mine if tuple(keys[number]) not in table.results.rows]
-        failures = table.run(run_in_parallel(lambda number: run_one(model, listed[number], measure, program=program), missing, jobs, timeout),
-                             keys, missing, len(mine), progress)
-        table.end(keys, failures)
+        with contextlib.closing(
+                run_in_parallel(lambda number: run_one(model, listed[number], measure, program=program), missing, jobs, timeout)
+                if executor is None else
+                run_by_executor(executor, model, measure, [listed[number] for number in missing], program, timeout, ship)) as outcomes:
+            table.end(keys, table.run(outcomes, keys, missing, len(mine), progress))
     finally:
         table.results.close()
+    failures = table.failures
     rows = [Row({**listed[number].point, "seed": listed[number].seed, "model": mark.text, **figures})
             for number in mine if (figures := table.results.figures(keys[number])) is not None]
     return Sweep(names, rows, failures, table.about)
@@ -170,6 +179,7 @@ class Table:
         """Open a file, and copy the rows of other parts. OtherMark, Fault: one of them does not fit; then nothing is written."""
         self._out, self._listed, self._mark = None if out is None else Path(out), listed, mark
         self._units, self._measure = units, measure
+        self.failures: list[Failure] = []
         names = list(listed[0].point)
         self._parameters = find_kinds([run.point for run in listed])
         for path in parts:
@@ -230,7 +240,8 @@ class Table:
             if progress:
                 left = (time.monotonic() - begin) / ended * (len(missing) - ended)
                 progress(whole - len(missing) + ended, whole, len(failures), left)
-        return [failures[number] for number in sorted(failures)]
+        self.failures = [failures[number] for number in sorted(failures)]
+        return self.failures
 
     def end(self, keys: Sequence[Sequence[str]], failures: Sequence[Failure]) -> None:
         """Sort the rows, list the failures, and note the end."""

@@ -1,0 +1,100 @@
+"""Test that a site that was away gets what it lacks and little else."""
+from __future__ import annotations
+
+import hashlib
+import json
+import random
+import unittest
+from typing import Any
+from unittest import mock
+
+from faulty import Bus, Here, message_of
+from running import Case
+from server.model.operations import Operation, Shape, put
+from server.sites.sums import MOST_RANGES, Sums
+
+
+def made(count: int, number: int = 129) -> Operation:
+    return put((count, number), Shape("limit", count % 6, count % 6, count, None, 3))
+
+
+def hash_by_hand(operations: list[Operation]) -> str:
+    """Return the hash of operations: the sum of the first 8 bytes of the SHA-256 of each text."""
+    return f"{sum(int.from_bytes(hashlib.sha256(one.text().encode()).digest()[:8], 'big') for one in operations) % (1 << 64):x}"
+
+
+class Ranges(unittest.TestCase):
+    def test_each_range_has_the_hash_of_its_operations_in_whatever_order_they_came(self) -> None:
+        chance = random.Random(1)
+        for size, most, ranges in ((0, 4, 5), (1, 4, 5), (4, 4, 5), (5, 4, 5), (16, 4, 5), (23, 4, 5), (40, 4, 5)):
+            with mock.patch("server.sites.sums.MOST_IN_RANGE", most), mock.patch("server.sites.sums.MOST_RANGES", ranges):
+                operations = [made(count) for count in range(1, size + 1)]
+                sums, mixed = Sums(), chance.sample(operations, size)
+                for begin in range(0, size, 3):
+                    sums.add(mixed[begin:begin + 3])
+                found = sums.ranges()
+                begins = [begin for begin, _ in found]
+                self.assertEqual((begins[0], len(found) <= ranges), (None, True))
+                parts: list[list[Operation]] = [[] for _ in found]
+                for one in operations:
+                    parts[sum(begin is not None and begin <= one.stamp for begin in begins) and
+                          max(place for place, begin in enumerate(begins) if begin is None or begin <= one.stamp)].append(one)
+                self.assertEqual([theirs for _, theirs in found], [hash_by_hand(part) for part in parts])
+                self.assertTrue(all(len(part) <= most for part in parts[1:]), size)
+                self.assertEqual(sums.total, hash_by_hand(operations))
+                self.assertEqual(sums.differing(found), [])
+
+    def test_twins_are_in_one_range(self) -> None:
+        with mock.patch("server.sites.sums.MOST_IN_RANGE", 2):
+            twins = [put((2, 129), Shape("limit", one, one, 5, None, 3)) for one in (1, 2)]
+            one, other = Sums(), Sums()
+            one.add([made(1), *twins, made(3)])
+            for each in (made(3), *twins[::-1], made(1)):
+                other.add([each])
+            self.assertEqual((other.differing(one.ranges()), one.differing(other.ranges())), ([], []))
+
+    def test_a_message_has_a_few_kilobytes_however_many_operations_there_are(self) -> None:
+        sums = Sums()
+        with mock.patch("server.sites.sums.MOST_IN_RANGE", 8):
+            sums.add(made(57_474_374_771_840 + count) for count in range((MOST_RANGES + 3) * 8))
+            self.assertEqual(len(sums.ranges()), MOST_RANGES)
+            self.assertLess(len(json.dumps(sums.ranges())), 20_000)
+
+
+class Away(Case):
+    async def test_a_site_that_was_away_gets_the_ranges_in_which_it_lacks_something(self) -> None:
+        bus, operations = Bus(), [made(count) for count in range(1, 101)]
+        one, two = [await self.enterAsyncContext(Here(site=number)) for number in (1, 3)]
+        first, second = bus.site(one), bus.site(two)
+        await bus.give(first, message_of(first, *operations))
+        await bus.give(second, message_of(second, *(each for each in operations if each.stamp[0] not in (15, 77))))
+        with mock.patch("server.sites.sums.MOST_IN_RANGE", 10):
+            bus.seen.clear()
+            await bus.rounds(4)
+        sent = [each["stamp"][0] for message in bus.seen if message.topic.endswith("operations")
+                for each in json.loads(message.payload)["operations"]]
+        # Each site sends its own operations of the ranges that differ, cut where the other one cuts.
+        self.assertTrue({15, 77} <= {*sent} <= {*range(11, 23), *range(71, 83)}, sorted(sent))
+        self.assertLessEqual(len(sent), 2 * 2 * 12)
+        self.assertEqual(first._sum_up().total, second._sum_up().total)
+        self.assertEqual(two.lab.state.shared.size, 100)
+
+    async def test_nobody_gets_a_second_piece_before_the_next_announcement(self) -> None:
+        bus = Bus()
+        here = await self.enterAsyncContext(Here(site=1))
+        site = bus.site(here)
+        await bus.give(site, message_of(site, *(made(count) for count in range(1, 20))))
+        runs = [f"{number:x}" for number in range(1, 9)]
+
+        async def ask() -> int:
+            bus.sent.clear()
+            for folder in runs * 3:
+                said: dict[str, Any] = {"folder": folder, "run": folder, "site": 2, "road": site._road, "form": 3}
+                await site._receive("road/sites", folder, json.dumps(said).encode())
+                body = json.dumps({"folder": folder, "form": 3, "sum": "0", "ranges": [[None, "0"]], "timeline": ""}).encode()
+                await site._receive(f"road/{site._road}/sum", folder, body)
+            return sum(one.topic.endswith("operations") for one in bus.sent)
+        self.assertEqual(await ask(), 1)
+        self.assertEqual(await ask(), 0)
+        await site.announce()
+        self.assertEqual(await ask(), 1)

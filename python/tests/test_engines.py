@@ -1,0 +1,220 @@
+"""Test sweeps by executors: processes, threads, joblib's loky, Dask workers on this machine that lack the repository, and a job array."""
+from __future__ import annotations
+
+import os
+import shutil
+import signal
+import socket
+import subprocess
+import sys
+import tempfile
+import time
+import unittest
+from concurrent.futures import Executor, ProcessPoolExecutor, ThreadPoolExecutor
+from pathlib import Path
+from typing import Any
+
+from test_page import TOP, find_python
+from zegdrut import Fault, Plan, RoadLab
+from zegdrut.program.programs import find_program
+from zegdrut.sweeps import NoWorker, sweep
+from zegdrut.sweeps.results import read_rows
+
+PATIENCE = 120.0
+MODEL = '''
+import os, time
+from pathlib import Path
+from zegdrut import Plan, RoadLab
+import helpers
+
+LIMIT = 5
+
+def road(inflow, seed):
+    with RoadLab(Plan(length=100, inlets=[(0, inflow)], zones=[(LIMIT, 16_384)], detectors=[60], words=seed)) as lab:
+        lab.advance("A", 400)
+        time.sleep(0.1)
+        return {"cars": helpers.halve(lab.count("A", 0, 100, 400).cars), "seed again": seed}
+'''
+HELPERS = "PARTS = 2\ndef halve(x):\n    return x / PARTS\n"
+WORDS = ["model.py:road", "--grid", "inflow=10000,20000,30000,60000", "--seeds", "1-15"]
+
+
+def model(x: int, seed: int) -> dict[str, Any]:
+    if x == 3:
+        raise ValueError("not here")
+    with RoadLab(Plan(length=60, inlets=[(0, x * 6_000)], zones=[(4, 9_000)], detectors=[20], words=seed)) as lab:
+        lab.advance("A", 200)
+        return {"cars": lab.count("A", 0, 0, 200).cars}
+
+
+def add(x: int, seed: int) -> dict[str, int]:
+    return {"y": x * 10 + seed}
+
+
+def die(x: int, seed: int) -> dict[str, Any]:
+    if x == 3:
+        os.kill(os.getpid(), signal.SIGKILL)
+    return {"x": x}
+
+
+class Executors(unittest.TestCase):
+    def setUp(self) -> None:
+        self.out = Path(self.enterContext(tempfile.TemporaryDirectory())) / "out.csv"
+
+    def check(self, executor: Executor) -> None:
+        """Compare with the own pool, and check that failures are named and the table is the same."""
+        points, seeds = {"x": range(1, 8)}, range(1, 9)
+        own = sweep(model, points, seeds, out=self.out)
+        other = self.out.with_name("other.csv")
+        found = sweep(model, points, seeds, executor=executor, out=other)
+        self.assertEqual((found.rows, found.failures), (own.rows, own.failures))
+        self.assertEqual({failure.error for failure in found.failures}, {"ValueError: not here"})
+        self.assertEqual(other.read_bytes(), self.out.read_bytes())
+
+    def test_processes(self) -> None:
+        with ProcessPoolExecutor(3) as executor:
+            self.check(executor)
+
+    def test_threads(self) -> None:
+        with ThreadPoolExecutor(3) as executor:
+            self.check(executor)
+
+    def test_short_runs(self) -> None:
+        """Run short runs, which are sent in batches: each has its own figures."""
+        with ThreadPoolExecutor(2) as executor:
+            found = sweep(add, {"x": range(300)}, (1, 2, 3), executor=executor)
+        self.assertEqual([row["y"] for row in found.rows], [x * 10 + seed for x in range(300) for seed in (1, 2, 3)])
+
+    def test_loky(self) -> None:
+        python = find_python("joblib")
+        if python is None:
+            self.skipTest("joblib not installed")
+        code = ("import sys; sys.path[:0] = sys.argv[1:]\nfrom joblib.externals.loky import get_reusable_executor\nimport test_engines, zegdrut.sweeps\n"
+                "found = zegdrut.sweeps.sweep(test_engines.model, {'x': [1, 2]}, (1, 2), executor=get_reusable_executor(2))\n"
+                "print(found.rows == zegdrut.sweeps.sweep(test_engines.model, {'x': [1, 2]}, (1, 2)).rows, len(found.rows))\n")
+        ran = subprocess.run([python, "-c", code, str(TOP), str(TOP / "tests")], capture_output=True, text=True, check=False)
+        self.assertEqual((ran.returncode, ran.stdout), (0, "True 4\n"), ran.stderr)
+
+    def test_a_broken_executor(self) -> None:
+        """A process of a `ProcessPoolExecutor` dies: the sweep says so, keeps what has ended, and continues with a new one."""
+        with self.assertRaisesRegex(Fault, "the executor is broken .*: the finished runs are kept"), ProcessPoolExecutor(1) as executor:
+            sweep(die, {"x": [1, 2, 3, 4]}, executor=executor, out=self.out)
+        self.assertEqual({row["x"] for row in read_rows(self.out)}, {1, 2})
+        with ProcessPoolExecutor(1) as executor:
+            self.assertEqual(len(sweep(die, {"x": [1, 2, 4]}, executor=executor, out=self.out).rows), 3)
+
+    def test_what_cannot_be_sent(self) -> None:
+        if find_python("cloudpickle") == sys.executable:
+            self.skipTest("cloudpickle sends a lambda")
+        with ProcessPoolExecutor(1) as executor, self.assertRaisesRegex(Fault, "the model cannot be sent to workers .*cloudpickle"):
+            sweep(lambda x, seed: {"y": x}, {"x": [1]}, executor=executor)
+
+
+class Folder(unittest.TestCase):
+    def setUp(self) -> None:
+        self.folder = Path(self.enterContext(tempfile.TemporaryDirectory()))
+        (self.folder / "model.py").write_text(MODEL, encoding="utf-8")
+        (self.folder / "helpers.py").write_text(HELPERS, encoding="utf-8")
+
+    def run_sweep(self, out: str, *words: str, python: str = sys.executable, wait: bool = True) -> subprocess.Popen[str]:
+        process = subprocess.Popen([python, "-m", "zegdrut", "sweep", *WORDS, "--out", out, *words], cwd=self.folder, text=True,
+                                   env={**os.environ, "PYTHONPATH": str(TOP), "ROAD_LAB": str(find_program().resolve())}, stderr=subprocess.PIPE)
+        if wait:
+            process.said = process.communicate(timeout=PATIENCE)[1]  # type: ignore[attr-defined]
+        return process
+
+
+class JobArray(Folder):
+    def test_a_job_array(self) -> None:
+        """Run the commands of the page with SLURM's two variables, as its jobs 1 to 3."""
+        self.run_sweep("whole.csv")
+        command = " ".join([sys.executable, "-m", "zegdrut", "sweep", *WORDS])
+        job = f"{command} --jobs 1 --part $SLURM_ARRAY_TASK_ID/$SLURM_ARRAY_TASK_COUNT --out part-$SLURM_ARRAY_TASK_ID.csv"
+        for number in ("1", "2", "3"):
+            subprocess.run(["sh", "-c", job], cwd=self.folder, check=True, stderr=subprocess.DEVNULL,
+                           env={**os.environ, "PYTHONPATH": str(TOP), "SLURM_ARRAY_TASK_ID": number, "SLURM_ARRAY_TASK_COUNT": "3"})
+        self.run_sweep("joined.csv", "--take", "part-1.csv", "part-2.csv", "part-3.csv")
+        self.assertEqual((self.folder / "joined.csv").read_bytes(), (self.folder / "whole.csv").read_bytes())
+        self.assertEqual(sum(len(read_rows(self.folder / f"part-{number}.csv")) for number in (1, 2, 3)), 60)
+
+
+class Dask(Folder):
+    """Workers that have neither the repository, nor the package, nor the program; one of them is killed."""
+
+    def setUp(self) -> None:
+        super().setUp()
+        python = find_python("distributed")
+        if python is None:
+            self.skipTest("dask.distributed not installed")
+        self.python, self.processes = python, list[subprocess.Popen[bytes]]()
+        self.addCleanup(self.end_all)
+        with socket.socket() as free:
+            free.bind(("127.0.0.1", 0))
+            self.address = f"tcp://127.0.0.1:{free.getsockname()[1]}"
+        self.start("scheduler", "dask_scheduler", "--host", "127.0.0.1", "--port", self.address.rpartition(":")[2])
+
+    def start(self, name: str, module: str, *words: str) -> subprocess.Popen[bytes]:
+        """Start a part of Dask in a folder and a home of its own, without variables of this process."""
+        home = self.folder / name
+        home.mkdir()
+        process = subprocess.Popen([self.python, "-m", f"distributed.cli.{module}", *words, "--no-dashboard"], cwd=home, stdin=subprocess.DEVNULL,
+                                   stdout=subprocess.DEVNULL, stderr=subprocess.DEVNULL, start_new_session=True,
+                                   env={"PATH": "/usr/bin:/bin", "HOME": str(home), "PYTHONDONTWRITEBYTECODE": "1"})
+        self.processes.append(process)
+        return process
+
+    def start_worker(self, name: str) -> subprocess.Popen[bytes]:
+        return self.start(name, "dask_worker", self.address, "--nthreads", "1", "--no-nanny", "--host", "127.0.0.1")
+
+    def end_all(self) -> None:
+        for process in self.processes:
+            if process.poll() is None:
+                os.killpg(process.pid, signal.SIGKILL)
+            process.wait()
+
+    def test_workers_without_the_repository(self) -> None:
+        self.run_sweep("own.csv", python=self.python)
+        workers = [self.start_worker(name) for name in ("one", "two")]
+        ran = self.run_sweep("none.csv", "--dask", self.address, python=self.python)
+        self.assertRegex(ran.said, r"the worker .*, process \d+ cannot run this sweep: it has no package zegdrut: install it there, or send it")  # type: ignore[attr-defined]
+        self.assertEqual((ran.returncode, read_rows(self.folder / "none.csv")), (2, []))
+        running = self.run_sweep("dask.csv", "--dask", self.address, "--ship", python=self.python, wait=False)
+        until = time.monotonic() + PATIENCE
+        while (not (self.folder / "dask.csv").exists() or len(read_rows(self.folder / "dask.csv")) < 4) and time.monotonic() < until:
+            time.sleep(0.02)
+        before = len(read_rows(self.folder / "dask.csv"))
+        os.killpg(workers[0].pid, signal.SIGKILL)
+        self.assertEqual((running.wait(PATIENCE), running.communicate()[1].splitlines()[-1]), (0, "60 runs are in dask.csv"))
+        self.assertLess(before, 60)
+        self.assertEqual((self.folder / "dask.csv").read_bytes(), (self.folder / "own.csv").read_bytes())
+
+    def test_a_worker_with_another_program(self) -> None:
+        """A worker that has this package, but another program, is refused by name."""
+        shutil.copytree(TOP / "zegdrut", self.folder / "one" / "zegdrut", ignore=shutil.ignore_patterns("__pycache__"))
+        (self.folder / "one").rename(self.folder / "kept")
+        self.start_worker("one")
+        (self.folder / "kept" / "zegdrut").rename(self.folder / "one" / "zegdrut")
+        ran = self.run_sweep("out.csv", "--dask", self.address, python=self.python)
+        self.assertRegex(ran.said, "cannot run this sweep: the program at .* is missing, or differs from the caller's: set ROAD_LAB there")  # type: ignore[attr-defined]
+        self.assertEqual(ran.returncode, 2)
+
+
+class Mpi(Folder):
+    def test_mpi(self) -> None:
+        """Run by `mpi4py.futures` on two workers. Only `python/test --all` does this."""
+        python = find_python("mpi4py")
+        if python is None or shutil.which("mpiexec") is None or "ALL_TESTS" not in os.environ:
+            self.skipTest("mpi4py not installed, or without --all")
+        (self.folder / "by_mpi.py").write_text(
+            "from mpi4py.futures import MPIPoolExecutor\nfrom zegdrut.sweeps import sweep\nimport model\n"
+            "if __name__ == '__main__':\n    points = {'inflow': [10_000, 60_000]}\n    with MPIPoolExecutor() as executor:\n"
+            "        found = sweep(model.road, points, (1, 2, 3), executor=executor)\n"
+            "    print(len(found.rows), found.rows == sweep(model.road, points, (1, 2, 3)).rows)\n", encoding="utf-8")
+        ran = subprocess.run(["mpiexec", "--allow-run-as-root", "--oversubscribe", "-n", "3", python, "-m", "mpi4py.futures", "by_mpi.py"],
+                             cwd=self.folder, capture_output=True, text=True, check=False, timeout=PATIENCE,
+                             env={**os.environ, "PYTHONPATH": str(TOP), "ROAD_LAB": str(find_program().resolve())})
+        self.assertEqual((ran.returncode, ran.stdout), (0, "6 True\n"), ran.stderr)
+
+
+if __name__ == "__main__":
+    unittest.main()

@@ -1,0 +1,217 @@
+"""Run runs by an executor of `concurrent.futures`' form: of processes, Dask, MPI or joblib's loky.
+
+    with ProcessPoolExecutor() as executor:
+        sweep(road, points, executor=executor)
+    with dask.distributed.Client("tcp://HOST:8786") as client:
+        sweep(road, points, executor=client.get_executor(), ship=True)
+
+Short runs are sent in batches. A batch that is lost (its worker died, or the scheduler was started again) is sent once more, a run at a
+time; what is lost then is a failure. Each run is in the table once, also if a scheduler repeats it.
+"""
+from __future__ import annotations
+
+import contextlib
+import inspect
+import io
+import pickle
+import platform
+import queue
+import types
+import zipfile
+from collections import Counter, deque
+from concurrent.futures import BrokenExecutor, CancelledError, Executor, Future, wait
+from pathlib import Path
+from typing import Callable, Generator, Iterator, Sequence
+
+from ..program.errors import Fault
+from ..program.programs import NoProgram, describe_program, find_program, read_copy
+from .marks import PACKAGE, Reach, Unknown, is_installed_module, module_of, sum_package
+from .pool import Outcome
+from .remote import NEEDS, RAN, Order, Ran, Reply, boot
+from .runs import Measure, Model, Run
+
+MOST_PENDING = 1_000
+"""The batches that are sent before the first of them has ended."""
+FIRST_PENDING = 8
+"""The same until a run has ended."""
+LAST_REPLIES = 2.0
+"""The seconds to wait for replies of workers that cannot run the sweep."""
+BATCH_SECONDS = 0.25
+"""About how long a batch takes."""
+MOST_OF_BATCH = 100
+ATTEMPTS = 3
+"""How often a run is sent that was cancelled by the executor or lost."""
+
+
+class Boot:
+    """The function `boot`, which is pickled as its source text, so that a worker without this package can call it."""
+
+    def __reduce__(self) -> tuple[Callable[..., object], tuple[str]]:
+        return eval, (f"(lambda names: (exec({boot_source()!r}, names), names['boot'])[1])({{}})",)
+
+    def __call__(self, *given: object) -> Reply:
+        return boot(*given)  # type: ignore[arg-type]
+
+
+def boot_source() -> str:
+    """Return the source text of `boot` without annotations of types that a worker lacks."""
+    return "from __future__ import annotations\n" + inspect.getsource(boot)
+
+
+class Engine:
+    """A sweep by an executor: which runs wait, which were sent, and what was shipped."""
+
+    def __init__(self, executor: Executor, model: Model, measure: Measure | None, listed: Sequence[Run], program: Path | str | None,
+                 timeout: float | None, ship: bool) -> None:
+        self._executor, self._listed, self._ship = executor, listed, ship
+        self._program = Path(program or find_program())
+        self._order = pickle.dumps(Order(pack(model, measure), describe_program(self._program), timeout))
+        self._waiting = deque(range(len(listed)))
+        self._alone: set[int] = set()  # runs that are sent in batches of one, because a batch of them was lost
+        self._held: list[int] = []  # runs that wait until a worker has got what it lacks
+        self._sent: dict[Future[Reply], tuple[list[int], bool]] = {}
+        self._done: queue.SimpleQueue[Future[Reply]] = queue.SimpleQueue()
+        self._lost: Counter[int] = Counter()
+        self._size = 1
+        self._shipping = 0
+        self._seconds, self._ran = 0.0, 0
+
+    def run(self) -> Generator[Outcome, None, None]:
+        """Run all. Yield each outcome as it comes. Fault: the executor is broken, or a worker cannot run the model."""
+        try:
+            while self._waiting or self._sent or self._held:
+                while self._waiting and len(self._sent) < (MOST_PENDING if self._ran else FIRST_PENDING):
+                    self._send(self._take(), False)
+                if not self._sent:
+                    self._send(self._held[:1], True)
+                    del self._held[:1]
+                yield from self._receive(self._done.get())
+        finally:
+            if not self._ran:  # (workers that lack something say so at once; Dask logs a future that ends while it is cancelled)
+                wait(self._sent, LAST_REPLIES)
+            for future in list(self._sent):
+                future.cancel()
+
+    def _take(self) -> list[int]:
+        """Return the next batch."""
+        batch = [self._waiting.popleft()]
+        while self._waiting and len(batch) < self._size and batch[0] not in self._alone and self._waiting[0] not in self._alone:
+            batch.append(self._waiting.popleft())
+        return batch
+
+    def _send(self, batch: list[int], with_all: bool) -> None:
+        """Send a batch, with the package and the program if `with_all`."""
+        package, program = (pack_package(), pickle.dumps(read_copy(self._program))) if with_all else (None, None)
+        runs = pickle.dumps([self._listed[number] for number in batch])
+        try:
+            future = self._executor.submit(Boot(), platform.python_version(), sum_package(), package, program, self._order, runs)
+        except (BrokenExecutor, RuntimeError) as fault:
+            raise describe_broken(fault) from None
+        self._shipping += with_all
+        self._sent[future] = batch, with_all
+        future.add_done_callback(self._done.put)
+
+    def _receive(self, future: Future[Reply]) -> Iterator[Outcome]:
+        batch, was_shipping = self._sent.pop(future)
+        self._shipping -= was_shipping
+        try:
+            kind, worker, value = future.result()
+        except BrokenExecutor as fault:
+            raise describe_broken(fault) from None
+        except (CancelledError, Exception) as fault:
+            yield from self._repeat(batch, fault)
+            return
+        if kind == RAN:
+            assert isinstance(value, list)
+            yield from self._outcomes(batch, value)
+            self._release()
+        elif kind == NEEDS and self._ship and not was_shipping:
+            self._held += batch
+            if not self._shipping:
+                self._send([self._held.pop()], True)
+        else:
+            raise NoWorker(f"the worker {worker} cannot run this sweep: {value}")
+
+    def _outcomes(self, batch: list[int], found: list[Ran]) -> Iterator[Outcome]:
+        for number, ran in zip(batch, found):
+            self._seconds += ran.seconds
+            self._ran += 1
+            yield Outcome(number, ran.figures, ran.error)
+        mean = self._seconds / self._ran
+        self._size = max(1, min(MOST_OF_BATCH, int(BATCH_SECONDS / max(mean, 1e-4)), len(self._waiting) // 16))
+
+    def _release(self) -> None:
+        """Let the held runs wait for any worker."""
+        self._waiting.extendleft(reversed(self._held))
+        self._held.clear()
+
+    def _repeat(self, batch: list[int], fault: BaseException) -> Iterator[Outcome]:
+        """Send a lost batch once more, a run at a time. Yield the failures of runs that are lost too often."""
+        for number in batch:
+            self._lost[number] += 1 if len(batch) == 1 else 0
+            if self._lost[number] >= (ATTEMPTS if isinstance(fault, CancelledError) else 1):
+                yield Outcome(number, None, f"{type(fault).__name__}: {fault}" if str(fault) else f"{type(fault).__name__}: its worker was lost")
+            else:
+                self._alone.add(number)
+                self._waiting.append(number)
+
+
+class NoWorker(Fault):
+    """A worker cannot run a sweep."""
+
+
+def describe_broken(fault: BaseException) -> Fault:
+    """Return the error for an executor that runs nothing any more."""
+    return Fault(f"the executor is broken ({fault}): the finished runs are kept, and the same call with a new executor continues")
+
+
+def pack(model: Model, measure: Measure | None) -> bytes:
+    """Return a model and its measurement, pickled: with cloudpickle what the user has written, by value. Fault: they cannot be pickled."""
+    try:
+        import cloudpickle
+    except ImportError:
+        try:
+            return pickle.dumps((model, measure))
+        except Exception as fault:
+            raise Fault(f"the model cannot be sent to workers ({fault}): install python3-cloudpickle, or define it in a module") from None
+    with contextlib.ExitStack() as stack:
+        for module in list_modules(model, measure):
+            cloudpickle.register_pickle_by_value(module)
+            stack.callback(cloudpickle.unregister_pickle_by_value, module)
+        try:
+            packed: bytes = cloudpickle.dumps((model, measure))
+        except Exception as fault:
+            raise Fault(f"the model cannot be sent to workers: {fault}") from None
+    return packed
+
+
+def list_modules(model: Model, measure: Measure | None) -> list[types.ModuleType]:
+    """Return the modules of the user that a model and its measurement reach."""
+    reach = Reach()
+    with contextlib.suppress(Unknown):
+        reach.parts(model, measure)
+    found = {module.__name__: module for one in (model, measure) if (module := module_of(one)) is not None}
+    return [module for name, module in {**found, **reach.modules}.items() if name != "__main__" and not is_installed_module(module)]
+
+
+def pack_package() -> bytes:
+    """Return this package as a zip file."""
+    data = io.BytesIO()
+    with zipfile.ZipFile(data, "w", zipfile.ZIP_DEFLATED) as file:
+        for path in sorted(PACKAGE.rglob("*")):
+            if path.is_file() and path.suffix != ".pyc":
+                file.write(path, Path(PACKAGE.name) / path.relative_to(PACKAGE))
+    return data.getvalue()
+
+
+def run_by_executor(executor: Executor, model: Model, measure: Measure | None, listed: Sequence[Run], program: Path | str | None = None,
+                    timeout: float | None = None, ship: bool = False) -> Generator[Outcome, None, None]:
+    """Run runs by an executor. Yield each outcome as it comes.
+
+    ship: send this package and the program to workers that lack them. NoWorker: a worker has another Python, package or program, and
+    cannot be sent what it lacks. Fault: the executor is broken, or the model cannot be pickled.
+    """
+    try:
+        yield from Engine(executor, model, measure, listed, program, timeout, ship).run()
+    except NoProgram as fault:
+        raise NoWorker(str(fault)) from None
