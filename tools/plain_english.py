@@ -7,11 +7,14 @@ import re
 import tokenize
 import tomllib
 from dataclasses import dataclass
+from html.parser import HTMLParser
 from pathlib import Path
 from typing import Iterable, Iterator, NamedTuple
 
 LISTS = Path(__file__).resolve().with_name("plain_english.toml")
 SLASHED = (".js", ".mjs", ".rt", ".c", ".rs")
+INLINE = ("a", "b", "em", "i", "kbd", "span", "strong")
+READ_ATTRIBUTES = ("alt", "aria-label", "aria-description", "placeholder", "title", "content")
 LEAST_WORDS = 3
 """A string with fewer words is a name or a value, and not a message."""
 
@@ -73,7 +76,9 @@ def find_texts(name: str, source: str) -> Iterator[Text]:
         yield from find_slashed_texts(source)
     elif name.endswith(".antt"):
         yield from join_comments(enumerate(source.split("\n"), 1), r"\s*--+ ?(.*)")
-    elif name.endswith(".html") or name.endswith(".css"):
+    elif name.endswith(".html"):
+        yield from find_page_texts(source)
+    elif name.endswith(".css"):
         return
     elif first.startswith("#!"):
         yield from join_comments(list(enumerate(source.split("\n"), 1))[1:], r"\s*# ?(.*)")
@@ -150,9 +155,14 @@ def name_owner(node: ast.AST) -> str:
 
 
 def with_code_removed(line: int, docstring: str, owner: str) -> Iterator[Text]:
-    """Yield the paragraphs of a docstring; the first one has the owner. Indented lines are code."""
+    """Yield the paragraphs of a docstring; the first one has the owner. Indented lines are code, but what follows two spaces there
+    describes it."""
     for index, text in enumerate(find_paragraphs(docstring)):
         yield Text(line + text.line - 1, text.text, owner if index == 0 else None)
+    for number, words in enumerate(docstring.split("\n"), line):
+        described = re.fullmatch(r" {4,}(?:\S+ )*\S+ {2,}(\S.*)", words)
+        if described:
+            yield Text(number, described[1])
 
 
 def join_neighbours(comments: Iterable[tuple[int, str]]) -> Iterator[Text]:
@@ -182,6 +192,44 @@ def find_slashed_texts(source: str) -> Iterator[Text]:
         behind = re.search(r"\S.*?\s//+ ?(.*)", code)
         if behind:
             yield Text(number, behind[1])
+
+
+class PageTexts(HTMLParser):
+    """Collects the texts of a page of HTML: what is between tags, and the attributes that users read or hear."""
+
+    def __init__(self, source: str) -> None:
+        super().__init__()
+        self.found, self._between = list[Text](), list[Text]()
+        self._is_code = False
+        self.feed(source)
+        self.close()
+        self._end()
+
+    def handle_starttag(self, tag: str, attributes: list[tuple[str, str | None]]) -> None:
+        if tag not in INLINE:
+            self._end()
+        self._is_code = tag in ("script", "style")
+        self.found += [Text(self.getpos()[0], join_lines([value])) for name, value in attributes if name in READ_ATTRIBUTES and value]
+
+    def handle_endtag(self, tag: str) -> None:
+        if tag not in INLINE:
+            self._end()
+        self._is_code = False
+
+    def handle_data(self, data: str) -> None:
+        if not self._is_code and data.strip():
+            self._between.append(Text(self.getpos()[0] + data[:-len(data.lstrip())].count("\n"), data))
+
+    def _end(self) -> None:
+        """End a text, which may have inline elements in it."""
+        if self._between:
+            self.found.append(Text(self._between[0].line, join_lines(text.text for text in self._between)))
+            self._between = []
+
+
+def find_page_texts(source: str) -> Iterator[Text]:
+    """Yield the texts of a page of HTML."""
+    yield from PageTexts(source).found
 
 
 # Faults

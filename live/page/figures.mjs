@@ -204,11 +204,17 @@ function closureWarnings() {
   });
 }
 
+/** Return a warning if the period ends after the demand of the road's file. */
+function demandWarnings() {
+  const end = store.me?.demand_end ?? Infinity;
+  return store.figures.wanted[1] > end ? [messages.demandEnded(store.day.timeText(end))] : [];
+}
+
 /** Show the warnings.
  * @param {Figures | null} exact
  */
 function showWarnings(exact) {
-  const texts = [...(exact ? lostWarnings(exact) : []), ...closureWarnings()];
+  const texts = [...(exact ? lostWarnings(exact) : []), ...closureWarnings(), ...demandWarnings()];
   showList($("warnings"), texts.map((text) =>
     ({key: text, version: text, make: () => element("li", text)})));
 }

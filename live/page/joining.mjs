@@ -25,7 +25,7 @@ import {titlesOf} from "./listing.mjs";
 /** @typedef {import("./types.mjs").Pushed} Pushed */
 /** @typedef {{welcome: Welcome} | (Refusal & {seats?: Seat[]})} HelloAnswer */
 
-const FORM = 4;                 // version of the protocol with the server
+const TAB_FORM = 4;             // version of the protocol with the server
 const REPLACED_SHOWN = 60_000;  // milliseconds for which the page shows that the program was restarted
 /** @type {(name: string) => string} */
 const stored = (name) => sessionStorage.getItem(name) ?? "";
@@ -84,7 +84,7 @@ export function changeSeat() {
  * @param {boolean} [isTried]     the page tries a key, which may be that of a former server
  */
 async function hello(fields, isTried = false) {
-  const asked = {hello: {token: stored("token"), form: FORM, ...fields}};
+  const asked = {hello: {token: stored("token"), form: TAB_FORM, ...fields}};
   const said = /** @type {HelloAnswer | null} */ (await need("connection").ask(asked).catch(() => null));
   if (!said) return;
   store.wishes = null;

@@ -231,6 +231,10 @@ export const demandLost = (place, asked, lost) =>
   `The inlet at ${place} km admits ${whole(asked - lost)} of ${plural(asked, "car")}. The other `
   + `${whole(lost)} never enter, so counts and vehicle hours do not include them.`;
 
+/** @param {string} time     of the file's end */
+export const demandEnded = (time) =>
+  `The demand in the road's file ends at ${time}. From then on, its last values apply.`;
+
 /**
  * @param {number} cars
  * @param {string} places

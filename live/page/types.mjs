@@ -187,6 +187,7 @@
  * @property {Broker | null} broker
  * @property {string} [standing]
  * @property {WireDay | null} [day]
+ * @property {number | null} [demand_end]     the step at which the demand profile of the file ends
  * @property {string} [road]          the name of the road's file
  */
 

@@ -70,6 +70,20 @@ class Freeways(Case):
         server.start()
         self.assertIn("has another road than", server.said())
 
+    async def test_values_for_the_whole_road_stay_in_force_after_the_last_minute(self) -> None:
+        """The file has 15 minutes. Its last demand, its drivers and their slow-to-start chance stay; the server says when a demand
+        that changes over time ends."""
+        for main, end in (([["7:00", 900], ["7:05", 600]], 900), (900, None)):
+            server = self.server(plan={**KM, "main": main, "start": 0.4, "begin": "07:00"})
+            async with server.seat() as ada:
+                self.assertEqual(ada.welcome["demand_end"], end)
+                edits = (await ada.ask("scenario", at="shared"))["edits"]
+                self.assertIn("start", {kind for kind, *_ in edits})
+                self.assertLess(max(step for _, _, step, *_ in edits), 900)
+                chances = [value_at(edits, ada.welcome["plan"], 0, step) for step in (0, 299, 300, 899, 900, 5_000)]
+                self.assertEqual(chances[3:], [chances[2]] * 3)
+                self.assertEqual(chances[1] > chances[2], end is not None)
+
     async def test_demand_and_clock_are_those_of_the_file(self) -> None:
         """900 cars an hour, 600 from 7:05 on, and 200 at an on-ramp are admitted to within half a per cent, and the curve that
         the page asks for gives the ramp's demand back."""

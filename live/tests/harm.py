@@ -347,6 +347,15 @@ class Refusals(unittest.TestCase):
             Refused("too far ahead", "")
 
 
+class Changes(unittest.TestCase):
+    def test_the_commands_that_the_page_lists_as_changes_are_marked(self) -> None:
+        text = (LIVE / "PROTOCOL.md").read_text(encoding="utf-8").partition("### Changing your own road\n")[2].partition("\n### ")[0]
+        listed = {name for line in re.findall("^- (.*)$", text, re.MULTILINE) for name in re.findall(r"`(\w+)` \{", line)}
+        others = {"clock", "leave", "unbind"}  # of the clock, seats and sites
+        self.assertEqual({verb for verb in verbs.VERBS if verbs.is_change(verb)}, listed | others)
+        self.assertFalse(verbs.is_change("nothing"))
+
+
 class Tabs(Case):
     async def test_every_question_of_a_tab_is_answered_or_refused(self) -> None:
         """A refusal has a sentence, and the program accepts everything that the server accepted."""

@@ -5,6 +5,7 @@ import asyncio
 import contextlib
 import json
 import os
+import sys
 from pathlib import Path
 from typing import Any
 from unittest import mock
@@ -17,7 +18,7 @@ from server.tabs.refusals import Refused
 from server.tabs.client import Seat
 from server.tabs.doors import Strangers, address_group
 from server.tabs.tabs import Tab, parse_frame
-from running import PATIENCE, SMALL, Case, Server, transport_of, until
+from running import PATIENCE, SMALL, Case, Server, end, started, transport_of, until
 from working import takes_at_most
 
 
@@ -300,6 +301,33 @@ class Crowds(Case):
                 self.assertEqual((await ben.reply("ping"))["pong"], {})
             await until(lambda: self.are_few(server), "most of them are cut")
             self.assertEqual((await ada.reply("ping"))["pong"], {})
+
+    async def test_a_flood_from_its_own_address_keeps_no_tab_out(self) -> None:
+        """Some 690 connections a second come that send nothing, are closed at once, or ask for the page. A tab tries three times, since
+        it is cut if this process is too slow to say hello."""
+        server = self.server()
+        host = server.address.partition("/#")[0].rpartition("/")[2]
+        flood = ("import socket, sys, time\nheld = []\nbegin = time.time()\n"
+                 "for number in range(1_000_000):\n"
+                 "    time.sleep(max(0, begin + number / 690 - time.time()))\n"
+                 "    one = socket.create_connection((sys.argv[1], int(sys.argv[2])))\n"
+                 "    one.close() if sys.argv[3] == 'close' else held.append(one)\n"
+                 "    one.sendall(sys.argv[3].encode()) if sys.argv[3].startswith('GET') else None\n"
+                 "    held = held[-500:]\n")
+        for said in ("", "close", f"GET / HTTP/1.1\r\nHost: {host}\r\n\r\n"):
+            process = started([sys.executable, "-c", flood, *host.split(":"), said])
+            await asyncio.sleep(2)
+            for number in range(5):
+                for is_last in (False, False, True):
+                    try:
+                        async with server.seat(f"{said[:5]} {number}") as seat:
+                            self.assertEqual((await seat.reply("ping"))["pong"], {})
+                        break
+                    except (ConnectionError, aiohttp.ClientError):
+                        if is_last:
+                            raise
+            self.assertIsNone(process.poll())
+            end(process)
 
     async def are_few(self, server: Server) -> bool:
         """Return whether the server has few files and sockets open."""

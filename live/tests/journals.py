@@ -582,7 +582,8 @@ class Folders(Case):
             while not here.keeper._unapplied:
                 await asyncio.sleep(0)
             compaction = asyncio.create_task(here.keeper.compact())
-            await asyncio.sleep(0.1)
+            for _ in range(1_000):
+                await asyncio.sleep(0)
             disk.free.set()
             await soon(asyncio.gather(gesture, clock, compaction))
         entries = here.entries()

@@ -113,6 +113,7 @@ class OneFreeway(BrowserCase):
         tab.until(lambda: tab.text("clock") == "08:00:00", "the clock")
         tab.settled()
         self.assertEqual(tab.lines("held"), ["54 km/h, 0.9–1.2 km, 07:04–07:08 shared"])
+        self.assertIn("The demand in the road's file ends at 07:15. From then on, its last values apply.", tab.text("warnings"))
         self.assertEqual(tab.script("return [...document.querySelectorAll('#fileDemandTable tr')].map((row) => "
                                     "[...row.children].map((cell) => cell.textContent).join(' '))"),
                          ["from at 0 km at 0.45 km", "07:00 900 200", "07:05 612 200", "07:10 612 311"])
@@ -129,7 +130,7 @@ class OneFreeway(BrowserCase):
                          ["54 km/h, 0.9–1.2 km, 07:04–07:08", "Demand 448 cars/h, at 0.45 km, 07:05–07:10 (new)"])
         self.assertRegex(page, "on-ramp at km 0.45: 200 from 07:00, 448 from 07:05, 31[01] from 07:10")
         table = tab.save("Figures as CSV", "figures.csv").read_text(encoding="utf-8")
-        minutes = [(447.69 * 5 + 310.5 * 5 + 200 * 50) / 60, (200 * 55 + 310.5 * 5) / 60]
+        minutes = [(200 * 5 + 447.69 * 5 + 310.5 * 50) / 60, (200 * 10 + 310.5 * 50) / 60]
         wanted = [str(float(f"{one:.4f}")).removesuffix(".0") for one in minutes]
         self.assertIn(f"demand at 0.45 km,cars,{wanted[0]},{wanted[1]},", table)
         tab.press("Change", "#own")

@@ -1,6 +1,7 @@
 """Compute every figure of the table in a second way: by loops over the cars of each step, on random roads with two ramps."""
 from __future__ import annotations
 
+import dataclasses
 import random
 import statistics
 import unittest
@@ -20,8 +21,8 @@ Edits = list[tuple[str, int, int, int]]
 class Watched:
     """A run that was watched step by step: the cars of each row, and when each car entered, passed each detector and left."""
 
-    def __init__(self, lab: RoadLab, first: int, edits: Edits, demands: list[list[tuple[int, float]]]) -> None:
-        self.first, self.demands = first, demands
+    def __init__(self, lab: RoadLab, first: int, edits: Edits, demands: list[list[tuple[int, float]]], waiting: list[list[int]]) -> None:
+        self.first, self.demands, self.waiting = first, demands, waiting
         self.rows: list[list[Car]] = [lab.cars("A", step) for step in range(LAST + 1)]
         self.speeds: list[list[tuple[int, int]]] = [[] for _ in DETECTORS]
         self.arrivals: dict[tuple[int | None, int], int] = {}
@@ -96,6 +97,10 @@ def total(ask: Callable[[int, int, int], float], first: int) -> float:
 
 OF_ROAD: dict[str, Callable[[Watched, Of], float | None]] = {
     "hours": lambda run, of: run.hours(),
+    "wait": lambda run, of: sum(run.waiting[of.inlet or 0][run.first:]) / 3_600,
+    "wait queue": lambda run, of: max(run.waiting[of.inlet or 0][run.first:]),
+    "wait end": lambda run, of: next(((step - run.first + 1) / 60 for step in range(LAST - 1, run.first - 1, -1) if run.waiting[of.inlet or 0][step]), None),
+    "all hours": lambda run, of: run.hours() + sum(sum(cars[run.first:]) for cars in run.waiting) / 3_600,
     "waiting": lambda run, of: sum(run.queues(of.inlet or 0)) / 3_600,
     "together": lambda run, of: run.hours() + sum(run.queues(of.inlet or 0)) / 3_600,
     "queue": lambda run, of: max(run.queues(of.inlet or 0)),
@@ -107,7 +112,8 @@ OF_ROAD: dict[str, Callable[[Watched, Of], float | None]] = {
     "lost at": lambda run, of: run.demand(of.inlet or 0, run.first, LAST) - run.admitted(of.inlet or 0, run.first, LAST),
     "travel": lambda run, of: run.mean_time(of),
     "cars": lambda run, of: len(run.seen(of.detector)),
-    "flow": lambda run, of: len(run.seen(of.detector)) * 3_600 / sum(run.on[of.detector or 0][run.first:]),
+    "flow": lambda run, of: (len(run.seen(of.detector)) * 3_600 / sum(run.on[of.detector or 0][run.first:])
+                             if any(run.on[of.detector or 0][run.first:]) else None),
     "speed": lambda run, of: statistics.mean(run.seen(of.detector)) * 27 if run.seen(of.detector) else None}
 """By a figure's key: what it is on a road."""
 OF_CHANGE: dict[str, Callable[[Watched, Watched, Of], list[float | None]]] = {
@@ -126,13 +132,14 @@ def run_day(chance: random.Random, first: int) -> tuple[list[RoadRun], list[Watc
     closure: Edits = [("block", 100, first + 20, 1), ("block", 100, first + chance.randrange(40, 90), 0)]
     demands = [[(0, chance.uniform(100, 600)), (chance.randrange(50, 300), chance.uniform(100, 900))] for _ in INLETS]
     runs, watched = [], []
+    waiting = [[chance.randrange(30) if chance.randrange(2) and step < chance.randrange(LAST) else 0 for step in range(LAST)] for _ in INLETS]
     for all_edits in (edits, edits + closure):
         with RoadLab(plan) as lab:
             for kind, index, step, value in all_edits:
                 lab.edit("A", (kind, index), step, value)
             lab.advance("A", LAST)
-            runs.append(read_run(lab, "A", Window(first, LAST), demands, period=70))
-            watched.append(Watched(lab, first, all_edits, demands))
+            runs.append(dataclasses.replace(read_run(lab, "A", Window(first, LAST), demands, period=70), waiting=dict(enumerate(waiting))))
+            watched.append(Watched(lab, first, all_edits, demands, waiting))
             figures = list_figures(lab.plan)
     return runs, watched, figures
 

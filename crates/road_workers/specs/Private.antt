@@ -4,4 +4,5 @@ pub mod Started
 pub mod Gathered
 pub mod Stretches
 pub mod Jobs
+pub mod Lost
 pub mod RunsUnderWay

@@ -138,6 +138,7 @@ impl<R: Threads + Wait + Clone + Drop + Send + 'static> Pool<R> {
         let inbox = Inbox {
             replies,
             lookout: Lookout::of(workers + 1, processors),
+            lost: false,
         };
         let outfit = Outfit {
             gate,

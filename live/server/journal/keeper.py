@@ -126,6 +126,7 @@ class Keeper:
         """Shorten the journal: write the present state, with each operation once."""
         for seat in self.state.seats[1:]:
             self.state.forget_keys(seat)
+            await asyncio.sleep(0)
         await self.journal.compact(lambda: (entry.written() for entry in (*self.state.entries(), *self._unapplied.values())))
 
     async def shorten_journal(self) -> None:

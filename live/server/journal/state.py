@@ -434,8 +434,9 @@ class State:
 
     def forget_keys(self, seat: SeatReplica) -> None:
         """Drop keys whose operations were forgotten, except the newest."""
-        held = {*self.by_stamp, *(one.stamp for one in self.unreadable)}
-        for key in [key for key, stamp in seat.done.items() if stamp not in held][:-MOST_FORGOTTEN_KEYS]:
+        aside = {one.stamp for one in self.unreadable}
+        gone = [key for key, stamp in seat.done.items() if stamp not in self.by_stamp and stamp not in aside]
+        for key in gone[:-MOST_FORGOTTEN_KEYS]:
             del seat.done[key]
 
     # Compaction

@@ -9,9 +9,12 @@ from dataclasses import dataclass, field
 from pathlib import Path
 from typing import Iterator, Mapping, Sequence, TypedDict, cast
 
+from zegdrut import LabError
+from zegdrut.commands.freeway import FIGURES
 from zegdrut.program.wire import PlanLine
 from zegdrut.roads.clock import Clock
 from zegdrut.roads.demand import find_rate
+from zegdrut.roads.units import to_steps
 
 from ..journal.journal import CannotStart, to_json
 from ..journal.lab import Lab
@@ -44,6 +47,16 @@ def clock_of(folder: Path) -> Clock | None:
         return Clock.read(*(value.get(name) for name in ("begin", "date", "timezone"))) if value.get("begin") is not None else None
     except (OSError, ValueError, AttributeError):  # (an InvalidTime is a ValueError)
         return None
+
+
+def find_profile_end(folder: Path) -> int | None:
+    """Return the step at which the demand profile of a folder's file ends. None: its file has no demand that changes over time."""
+    try:
+        figures = FIGURES.override(folder / FREEWAY_FILE)
+    except (OSError, LabError):
+        return None
+    changes = any(isinstance(demand, list) for demand in (figures.main, *(demand for _, demand in figures.ramps)))
+    return to_steps(figures.minutes) if changes else None
 
 
 def name_of(folder: Path) -> str:

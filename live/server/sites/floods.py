@@ -20,7 +20,8 @@ V = TypeVar("V")
 
 
 class Floods:
-    """Counts the messages of each sender. The limit is `BURST` messages at once and `A_SECOND` per second, or the same amount of work."""
+    """Counts the messages of each sender. The limit is `MESSAGE_BURST` messages at once and `MESSAGES_PER_SECOND`, or as much
+    work."""
 
     def __init__(self, clock: Callable[[], float] = time.monotonic) -> None:
         self._clock = clock

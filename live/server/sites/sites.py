@@ -371,8 +371,8 @@ class Sites:
                 began = thread_time()
         self._count_work(folder, thread_time() - began)
         if faults:
-            several = f"{len(faults)} operations of a message were ignored. The first" if faults[1:] else "An operation of a message was ignored"
-            self._say(f"{several}: {faults[0]}")
+            several = f"{len(faults)} operations of a message were ignored. The first: "
+            self._say((several if faults[1:] else "An operation of a message was ignored: ") + faults[0])
         return good
 
     def _keep_early(self, one: Operation) -> None:

@@ -16,7 +16,7 @@ import aiohttp
 if TYPE_CHECKING:
     from .frames import Frame, Welcome
 
-LONGEST_FRAME = 1 << 26  # bytes
+LONGEST_ANSWER = 1 << 26  # bytes
 PATIENCE = 120.0  # seconds
 
 
@@ -63,7 +63,7 @@ class Seat:
         self._session = aiohttp.ClientSession()
         try:
             self._socket = await self._session.ws_connect(
-                self._base + "/live", headers={"Origin": self._base}, max_msg_size=LONGEST_FRAME, ssl=self._ssl)
+                self._base + "/live", headers={"Origin": self._base}, max_msg_size=LONGEST_ANSWER, ssl=self._ssl)
             self._reader = asyncio.create_task(self._read())
             self.welcome = (await self.say("hello", token=self._token, **self._hello))["welcome"]
         except BaseException:

@@ -7,8 +7,10 @@
     strangers = Strangers(connections, known)
     await strangers.watch()         closes connections that do not show the token in time
 
-Each address has a queue of connections; if it grows too long, the oldest are closed. Only a few connections may be waiting for
-their first bytes or their TLS handshake, since each takes a third of a megabyte with TLS.
+A connection waits for its first bytes, and then in a queue of its address: tabs in one, requests for the page in another. So connections
+that send nothing, that are closed at once, or that ask for the page, keep no tab of their own address out. If too many wait, the oldest
+are closed. Only a few connections may be in their TLS handshake, since each takes
+a third of a megabyte.
 """
 from __future__ import annotations
 
@@ -20,12 +22,14 @@ import logging
 import socket
 import ssl
 import time
-from typing import Callable, Container, Deque, Iterable, Protocol
+from typing import AsyncIterator, Callable, Container, Deque, Iterable, Protocol
 
-MOST_QUEUED = 64  # connections in the queue of an address
-MOST_ADDRESSES = 256  # that have a queue
+MOST_QUEUED = 64  # connections in a queue
+MOST_QUEUES = 512
+TAB = b"GET /live "  # the beginning of a tab's request; with TLS it cannot be seen
 ENTRY_BURST, ENTRIES_PER_SECOND = 128, 100  # connections that may enter in a burst, and per second
-MOST_ENTERING = 64  # connections before their first bytes, or in their TLS handshake
+MOST_SILENT = 256  # connections before their first bytes
+MOST_ENTERING = 64  # connections in their TLS handshake
 HANDSHAKE = 10.0  # seconds for the first bytes, and again for the handshake
 TLS_SHUTDOWN = 5.0  # seconds for the TLS shutdown
 AT_A_TIME = 256  # connections that are accepted before other work has its turn
@@ -43,13 +47,18 @@ class Connection(Protocol):
         """Return the transport; None if the connection is closed."""
 
 
+Line = tuple[str, bool]
+"""Whose queue it is: an address, and whether it is for tabs."""
+
+
 class Doors:
     """Listening sockets, and the queues of connections that wait to enter."""
 
     def __init__(self, sockets: list[socket.socket], protocol: Callable[[], asyncio.Protocol], certificate: ssl.SSLContext | None) -> None:
         self._sockets, self._protocol, self._certificate = sockets, protocol, certificate
-        self._waiting: collections.OrderedDict[str, Deque[socket.socket]] = collections.OrderedDict()  # queues by address
-        self._entering: dict[asyncio.Future[None], str] = {}  # tasks, the oldest first, and their addresses
+        self._waiting: collections.OrderedDict[Line, Deque[socket.socket]] = collections.OrderedDict()
+        self._silent: dict[asyncio.Future[None], str] = {}  # tasks that wait for first bytes, the oldest first, and their addresses
+        self._entering: dict[asyncio.Future[None], str] = {}  # tasks in the TLS handshake, in the same way
         self._come = asyncio.Event()
         self._left, self._at = float(ENTRY_BURST), time.monotonic()
 
@@ -71,34 +80,50 @@ class Doors:
                 loop.remove_reader(door)
                 loop.call_later(TOO_MANY, self._resume, door)
                 return
-            self._put(connection, address_group(address))
+            self._hear(connection, address_group(address))
 
     def _resume(self, door: socket.socket) -> None:
         if door.fileno() >= 0:
             asyncio.get_running_loop().add_reader(door, self._accept, door)
 
-    def _put(self, connection: socket.socket, address: str) -> None:
-        """Put a connection into the queue of its address. Close the oldest one if the queue is full."""
-        queue = self._waiting.setdefault(address, collections.deque())
+    def _hear(self, connection: socket.socket, address: str) -> None:
+        """Put a connection into the queue of its address once it has sent something."""
+        task = asyncio.ensure_future(self._wait_for_bytes(connection, address))
+        self._silent[task] = address
+        task.add_done_callback(lambda one: self._silent.pop(one, None))
+        cancel_oldest(self._silent, MOST_SILENT)
+
+    async def _wait_for_bytes(self, connection: socket.socket, address: str) -> None:
+        async with closed_after_fault(connection):
+            async with asyncio.timeout(HANDSHAKE):
+                await wait_for_first_bytes(connection)
+            said = connection.recv(len(TAB), socket.MSG_PEEK)
+            if not said:
+                raise ConnectionError("the other end has closed the connection")
+            self._put(connection, (address, said == TAB))
+
+    def _put(self, connection: socket.socket, line: Line) -> None:
+        """Put a connection into its queue. Close the oldest one if the queue is full."""
+        queue = self._waiting.setdefault(line, collections.deque())
         queue.append(connection)
         if len(queue) > MOST_QUEUED:
             queue.popleft().close()
-        if len(self._waiting) > MOST_ADDRESSES:  # drop the queue whose turn is last
+        if len(self._waiting) > MOST_QUEUES:  # drop the queue whose turn is last
             for one in self._waiting.popitem()[1]:
                 one.close()
         self._come.set()
 
     async def serve(self) -> None:
-        """Let waiting connections enter, from one address after the other."""
+        """Let waiting connections enter, from one queue after the other."""
         while True:
             self._come.clear()
             while self._waiting:
                 await self._wait_to_enter()
-                address, queue = self._waiting.popitem(last=False)
+                line, queue = self._waiting.popitem(last=False)
                 connection = queue.popleft()
                 if queue:
-                    self._waiting[address] = queue
-                self._enter(connection, address)
+                    self._waiting[line] = queue
+                self._enter(connection, line[0])
             await self._come.wait()
 
     async def _wait_to_enter(self) -> None:
@@ -111,38 +136,50 @@ class Doors:
     def _enter(self, connection: socket.socket, address: str) -> None:
         task = asyncio.ensure_future(self._connect(connection))
         self._entering[task] = address
-        task.add_done_callback(self._entering.pop)
-        if len(self._entering) > MOST_ENTERING:
-            counts = collections.Counter(self._entering.values())
-            worst = max(counts.values())
-            next(one for one, of in self._entering.items() if counts[of] == worst).cancel()
+        task.add_done_callback(lambda one: self._entering.pop(one, None))
+        cancel_oldest(self._entering, MOST_ENTERING)
 
     async def _connect(self, connection: socket.socket) -> None:
         has_tls = self._certificate is not None
-        try:
-            async with asyncio.timeout(HANDSHAKE):
-                await wait_for_first_bytes(connection)
+        async with closed_after_fault(connection):
             await asyncio.get_running_loop().connect_accepted_socket(
                 self._protocol, connection, ssl=self._certificate, ssl_handshake_timeout=HANDSHAKE if has_tls else None,
                 ssl_shutdown_timeout=TLS_SHUTDOWN if has_tls else None)
-        except (OSError, asyncio.TimeoutError):  # (errors of TLS are OSErrors, too)
-            connection.close()
-        except asyncio.CancelledError:
-            with contextlib.suppress(OSError):
-                connection.close()
-            raise
 
     def close(self) -> None:
         """Close the listening sockets and all connections that have not entered."""
         for one in self._sockets:
             asyncio.get_running_loop().remove_reader(one)
             one.close()
-        for task in [*self._entering]:
+        for task in [*self._silent, *self._entering]:
             task.cancel()
         for queue in self._waiting.values():
             for connection in queue:
                 connection.close()
         self._waiting.clear()
+
+
+def cancel_oldest(tasks: dict[asyncio.Future[None], str], most: int) -> None:
+    """Cancel the oldest task of the address with the most tasks, if there are too many."""
+    if len(tasks) > most:
+        counts = collections.Counter(tasks.values())
+        worst = max(counts.values())
+        oldest = next(one for one, of in tasks.items() if counts[of] == worst)
+        del tasks[oldest]
+        oldest.cancel()
+
+
+@contextlib.asynccontextmanager
+async def closed_after_fault(connection: socket.socket) -> AsyncIterator[None]:
+    """Close a connection if the block fails or is cancelled; ignore errors of the connection and of TLS, which are OSErrors."""
+    try:
+        yield
+    except (OSError, asyncio.TimeoutError):
+        connection.close()
+    except asyncio.CancelledError:
+        with contextlib.suppress(OSError):
+            connection.close()
+        raise
 
 
 async def wait_for_first_bytes(connection: socket.socket) -> None:

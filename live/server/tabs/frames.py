@@ -17,7 +17,7 @@ Day = TypedDict("Day", {"begin": "int | None", "date": "str | None", "zone": "st
 Welcome = TypedDict("Welcome", {
     "at": str, "seat": int, "name": str, "key": str, "number": int, "form": int, "site": int, "plan": PlanLine, "horizon": int,
     "rate": float, "now": int, "stop": int, "ahead": int, "time": float, "most": Mapping[str, int], "broker": "BrokerState | None",
-    "trouble": "str | None", "standing": "str | None", "day": Day, "road": str}, total=False)
+    "trouble": "str | None", "standing": "str | None", "day": Day, "demand_end": "int | None", "road": str}, total=False)
 BoundSite = TypedDict("BoundSite", {"site": int, "folder": str})
 """A site's number, and the folder that it is bound to."""
 Blocked = TypedDict("Blocked", {"stamp": Stamp, "by": Sequence[str]})

@@ -78,7 +78,7 @@ class Tab:
         try:
             await asyncio.wait(self._tasks[:2], return_when=asyncio.FIRST_COMPLETED)
         finally:
-            looks = [task for task, verb in self._asked.items() if verb not in verbs.CHANGES]  # nobody needs their answers
+            looks = [task for task, verb in self._asked.items() if not verbs.is_change(verb)]  # nobody needs their answers
             for task in [*self._tasks, *looks]:
                 task.cancel()
             for result in await asyncio.gather(*self._tasks, return_exceptions=True):
@@ -153,7 +153,7 @@ class Tab:
             await self._enter(number, verb, fields)
         elif self.index is None:
             self.disconnect(1008, "the first command must be hello")
-        elif len(self._asked) >= MOST_PENDING or verb in verbs.CHANGES and self._tabs.changing[self.index] >= MOST_CHANGING:
+        elif len(self._asked) >= MOST_PENDING or verbs.is_change(verb) and self._tabs.changing[self.index] >= MOST_CHANGING:
             self._send({"id": number, **Refused("Busy", f"{MOST_PENDING} commands of this tab are waiting: try again later").reply()})
             await asyncio.sleep(FLOOD_PAUSE)
         else:
@@ -185,7 +185,7 @@ class Tab:
     async def _answer(self, index: int, number: int, verb: str, fields: Json, came: float) -> None:
         times: Times = {}
         reply: Reply
-        changes = verb in verbs.CHANGES
+        changes = verbs.is_change(verb)
         self._tabs.changing[index] += changes
         try:
             reply = await self._tabs.answer(self, index, verb, fields, times)
@@ -279,7 +279,7 @@ class Tabs:
                 "time": round(time.time(), 3),
                 "most": {"edits": MOST_EDITS, "rows": MOST_ROWS, "bytes": MOST_BYTES,
                          "days": self.lab.keeper.settings.days}, "broker": self._broker(),
-                "trouble": self._trouble, "standing": self._standing, "day": self._day(),
+                "trouble": self._trouble, "standing": self._standing, "day": self._day(), "demand_end": plans.find_profile_end(self.lab.keeper.folder),
                 "road": plans.name_of(self.lab.keeper.folder)}
 
     def _day(self) -> Mapping[str, int | str | None]:

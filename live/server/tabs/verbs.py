@@ -28,9 +28,6 @@ KEPT_ROADS = OWN | SHARED_ROAD
 ROADS = KEPT_ROADS | frozenset(SIDES)
 
 
-CHANGES = frozenset({"gesture", "edit", "withdraw", "undo", "again", "site", "send", "take", "leave", "clock", "unbind"})
-
-
 @dataclass
 class Call:
     """A command that is being answered: the seat that sent it, the road that it is about, and the times that the answer takes."""
@@ -60,11 +57,18 @@ T = TypeVar("T")
 @dataclass(frozen=True)
 class Verb:
     """A command: the roads that `at` may name, and the reader of its fields. If the command is about a road in `lists`, the reply may
-    show changes of other seats, so it waits until these are on the disk."""
+    show changes of other seats, so it waits until these are on the disk. A command that `changes` something is done even if its tab has
+    left."""
 
     of: frozenset[str]
     reader: Reader
     lists: frozenset[str] = frozenset()
+    changes: bool = False
+
+
+def is_change(verb: str) -> bool:
+    """Return whether a command changes something."""
+    return verb in VERBS and VERBS[verb].changes
 
 
 async def answer(lab: Lab, questions: Questions, index: int, asked: CommandFields, times: Times) -> Reply:
@@ -304,21 +308,21 @@ def table_of_counts(asked: CommandFields) -> Handler:
 VERBS: dict[str, Verb] = {
     # Commands without a road
     "seats": Verb(NO_ROAD, no_fields(seats)),
-    "clock": Verb(NO_ROAD, clock),
+    "clock": Verb(NO_ROAD, clock, changes=True),
     "numbers": Verb(NO_ROAD, no_fields(list_numbers)),
-    "unbind": Verb(NO_ROAD, reader_of_one_part(read_site, unbind)),
+    "unbind": Verb(NO_ROAD, reader_of_one_part(read_site, unbind), changes=True),
     "admission": Verb(NO_ROAD, admission),
     # Commands that change, share or take
-    "gesture": Verb(OWN, gesture),
-    "edit": Verb(OWN, reader_of_one_part(read_edit, put_edits)),
-    "withdraw": Verb(OWN, reader_of_one_part(read_edit, put_edits)),
-    "undo": Verb(OWN, undo),
-    "again": Verb(OWN, put_again),
-    "site": Verb(OWN, exclude_site),
-    "send": Verb(OWN, share),
+    "gesture": Verb(OWN, gesture, changes=True),
+    "edit": Verb(OWN, reader_of_one_part(read_edit, put_edits), changes=True),
+    "withdraw": Verb(OWN, reader_of_one_part(read_edit, put_edits), changes=True),
+    "undo": Verb(OWN, undo, changes=True),
+    "again": Verb(OWN, put_again, changes=True),
+    "site": Verb(OWN, exclude_site, changes=True),
+    "send": Verb(OWN, share, changes=True),
     "take": Verb(OWN, reader_of_one_part(
-        lambda asked: require_shared(asked, "message"), lambda call, _: call.lab.take(call.index, call.times))),
-    "leave": Verb(OWN, no_fields(leave)),
+        lambda asked: require_shared(asked, "message"), lambda call, _: call.lab.take(call.index, call.times)), changes=True),
+    "leave": Verb(OWN, no_fields(leave), changes=True),
     # Queries of roads
     "advance": Verb(ROADS, reader_of_one_part(lambda asked: asked.whole("to"), lambda call, to: call.questions.advance(call.road, to))),
     "cells": Verb(ROADS, forward),

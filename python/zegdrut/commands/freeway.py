@@ -109,10 +109,15 @@ def note_full_inlets(road: Road, found: Chances) -> None:
     bounds = [1_000 + 4_000 * piece for piece in range(26)]
     pieces = count_admitted([Inlet(*inlet) for inlet in now], road.drivers, bounds, seed=1)
     for (cell, demand), cars in zip(road.inlets, zip(*pieces)):
-        asked, lasting = find_rate(demand, step), sum(cars) * HOUR / (bounds[-1] - bounds[0])
-        if lasting < asked * SHORT:
-            road.notes.append(f"at km {cell / CELLS_A_KM:g} only {lasting:.0f} of {asked:g} cars per hour can enter in the "
+        asked, hours = find_rate(demand, step), (bounds[-1] - bounds[0]) / HOUR
+        if is_short(Supply(asked * hours, sum(cars))):
+            road.notes.append(f"at km {cell / CELLS_A_KM:g} only {sum(cars) / hours:.0f} of {asked:g} cars per hour can enter in the "
                               "long run, because the road downstream is full")
+
+
+def is_short(supply: Supply) -> bool:
+    """Return whether clearly fewer cars entered than the demand, and fewer than arrivals at random explain."""
+    return supply.admitted < SHORT * supply.demand and supply.lost > supply.scatter
 
 
 def format_time(road: Road, step: int) -> str:

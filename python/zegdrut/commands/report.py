@@ -38,7 +38,8 @@ from ..roads.demand import BeyondCapacity, find_rate
 from ..roads.freeway import Figures, Road, measure_chances, make_roads, to_rates, warm_up_minutes, widen_inlets, with_warm_up
 from ..roads.freeway_files import Demand
 from ..roads.road_scripts import make_script
-from ..roads.units import CELLS_A_KM, HOUR, KMH, count_things, format_km, to_steps
+from ..roads.units import CELLS_A_KM, HOUR, KMH, count_things, format_km, to_km, to_steps
+from ..roads.waiting import find_narrow_zone
 from .freeway import FIGURES, report_progress
 from .measured import (Congestion, add_congestion_argument, add_count_options, add_demand_argument, check_congested, check_days, choose_factor,
                        format_hours, format_shares, format_speeds, make_comparison_charts, make_title, read_data)
@@ -61,6 +62,7 @@ def read_arguments(words: Sequence[str] | None) -> argparse.Namespace:
     add_congestion_argument(parser)
     parser.add_argument("--warm-up", type=float, metavar="MINUTES", help="minutes of the run before the window (default: twice the free "
                         "travel time, rounded up to five minutes; 0: the road is empty when the window begins)")
+    parser.add_argument("--no-queue", action="store_true", help="cars that cannot enter are lost, and do not wait before the road")
     parser.add_argument("--title", help="title of the report (default: the names of the files)")
     parser.add_argument("--out", type=Path, metavar="FILE.html", help="file of the report")
     return parser.parse_args(words)
@@ -79,6 +81,8 @@ class Request:
     warm: float
     measured: Measured | None
     title: str = ""
+    has_queue: bool = True
+    """Whether cars that cannot enter wait before the road."""
 
     @property
     def window(self) -> Window:
@@ -121,18 +125,25 @@ def read_request(given: argparse.Namespace) -> Request:
         figures = dataclasses.replace(figures, date=dated.date)
         other = None if other is None else dataclasses.replace(other, date=dated.date)
     return Request(figures, other, names, warm_up_minutes(figures) if given.warm_up is None else given.warm_up, measured,
-                   given.road.stem if given.against is None else f"{given.road.stem} compared with {given.against.stem}")
+                   given.road.stem if given.against is None else f"{given.road.stem} compared with {given.against.stem}", not given.no_queue)
 
 
 def make_sides(request: Request) -> tuple[list[Road], list[Side]]:
     """Return the roads and the sides of the report. They begin before the window."""
-    figures, *others = widen_inlets([request.figures] if request.other is None else [request.figures, request.other])
-    after, before = make_roads(with_warm_up(figures, request.warm), with_warm_up(others[0], request.warm) if others else None)
+    figures, *others = [with_warm_up(one, request.warm) for one in
+                        widen_inlets([request.figures] if request.other is None else [request.figures, request.other])]
+    after, before = make_roads(figures, others[0] if others else None)
+    zone = find_narrow_zone(after.zone, [figures, *others])
+    if request.has_queue and zone != after.zone:
+        narrow = [dataclasses.replace(one, zone=to_km(zone)) for one in (figures, *others)]
+        after, before = make_roads(narrow[0], narrow[1] if others else None)
     pairs = [(request.names[1], after)] if before is None else [(request.names[0], before), (request.names[1], after)]
     found = []
     for name, road in pairs:
         report_progress(f"measuring the inflow chances for the demand of the road {name}")
-        found.append(Side(name, make_script(road, measure_chances(road), figures.seed), [demand for _, demand in road.inlets]))
+        chances = measure_chances(road)
+        found.append(Side(name, make_script(road, chances, figures.seed), [demand for _, demand in road.inlets],
+                          make_script(road, chances, figures.seed, with_works=False) if request.has_queue else None))
     return [road for _, road in pairs], found
 
 

@@ -8,8 +8,8 @@
 """
 from __future__ import annotations
 
-from dataclasses import dataclass
-from typing import Callable, Sequence, TypeVar, cast
+from dataclasses import dataclass, field
+from typing import Callable, Mapping, Sequence, TypeVar, cast
 
 from ..program.errors import Fault, LabError
 from ..program.lab import RoadLab
@@ -38,6 +38,19 @@ class RoadRun:
     """The rows of the window, if they are kept."""
     seconds: float = 1.0
     """The length of a step."""
+    arrived: Trips | None = None
+    """Its cars by their arrivals, if cars waited before the road."""
+    waiting: Mapping[int, Sequence[int]] = field(default_factory=dict)
+    """By the inlet's index: the cars that wait before it after each step."""
+
+    @property
+    def by_arrival(self) -> Trips:
+        """Return the cars with the numbers of their arrivals, so that those that waited can be compared with those of another road."""
+        return self.arrived or self.trips
+
+    def list_waiting(self, inlet: int) -> Sequence[int]:
+        """Return the cars that wait before an inlet after each step of the window."""
+        return self.waiting.get(inlet, ())[self.window.first:self.window.last]
 
     def hours(self, steps: int) -> float:
         """Convert steps of cars to vehicle hours."""

@@ -83,9 +83,12 @@ def list_figures(plan: PlanLine, units: Units = FREEWAY) -> list[Figure]:
     hours = "vehicle hours"
     return [
         Figure("delay", "delay", hours, 2, of_change=lambda before, after: Value(None, None, before.hours(compute_delay(
-            before.trips, after.trips, after.window).seconds))),
+            before.by_arrival, after.by_arrival, after.window).seconds))),
         *(make_delay_figure(site, place) for site, place in [*enumerate(places), (None, "the end")]),
         Figure("hours", f"{hours} on the road", hours, 2, count_hours),
+        *(figure for inlet, start in starts.items() for figure in list_wait_figures(inlet, start)),
+        Figure("all hours", f"{hours} on the road and before it", hours, 2, lambda run: run.hours(
+            count_vehicle_steps(run.trips, run.window) + sum(sum(run.list_waiting(inlet)) for inlet in inlets))),
         Figure("through", f"{hours} of cars through in both", hours, 2, of_change=compare_through),
         *(figure for inlet, ramp in ramps.items() for figure in list_queue_figures(inlet, ramp)),
         Figure("left", "cars that left the road", "cars", 0, lambda run: float(sum(
@@ -141,7 +144,7 @@ def compare_through(before: RoadRun, after: RoadRun) -> Value:
 def make_delay_figure(site: int | None, place: str) -> Figure:
     """Return the mean delay at a detector, or at the road's end."""
     return Figure("delay at", f"mean delay to {place}", "s", 1, of=Of(None, site), of_change=lambda before, after: Value(
-        None, None, compute_delay_at(before.trips, after.trips, after.window, site).mean))
+        None, None, compute_delay_at(before.by_arrival, after.by_arrival, after.window, site).mean))
 
 
 def make_lost_figure(inlet: int, label: str) -> Figure:
@@ -153,6 +156,16 @@ def make_lost_figure(inlet: int, label: str) -> Figure:
 def make_travel_figure(inlet: int, detector: int | None, label: str) -> Figure:
     """Return the mean travel time from an inlet to a detector, or to the road's end."""
     return Figure("travel", label, "s", 1, lambda run: compute_travel_time(run.trips, run.window, detector, inlet).mean, of=Of(inlet, detector))
+
+
+def list_wait_figures(inlet: int, start: str) -> list[Figure]:
+    """Return the figures of the cars that wait before an inlet because they cannot enter."""
+    def find_end(run: RoadRun) -> float | None:
+        end = max((step + 1 for step, cars in enumerate(run.list_waiting(inlet)) if cars), default=None)
+        return None if end is None else end * run.seconds / 60
+    return [Figure("wait", f"vehicle hours waiting before {start}", "vehicle hours", 2, lambda run: run.hours(sum(run.list_waiting(inlet))), of=Of(inlet)),
+            Figure("wait queue", f"longest queue before {start}", "cars", 0, lambda run: float(max(run.list_waiting(inlet), default=0)), of=Of(inlet)),
+            Figure("wait end", f"end of the queue before {start}, after the begin", "min", 0, find_end, of=Of(inlet))]
 
 
 def list_queue_figures(inlet: int, ramp: str) -> list[Figure]:

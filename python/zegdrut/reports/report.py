@@ -6,6 +6,7 @@
 """
 from __future__ import annotations
 
+import dataclasses
 from dataclasses import dataclass
 from typing import Callable, Sequence
 
@@ -17,10 +18,15 @@ from ..program.lab import RoadLab
 from ..program.scripts import Script
 from ..program.wire import Record
 from ..roads.demand import Rates
+from ..roads.waiting import ask_edits, find_arrivals, let_wait, name_by_arrival
 
 PERIOD = 300
 """The seconds of a point of the charts."""
 KEYS = ("delay", "delay at", "hours", "demand", "admitted", "lost", "travel", "flow", "speed")
+WAITING_KEYS = ("wait", "wait queue", "wait end", "all hours")
+"""The figures of cars that wait before the road, which are shown if cars wait."""
+GROWING_KEYS = ("delay", *WAITING_KEYS)
+"""The figures that are too small if cars still wait in the last row."""
 
 
 @dataclass(frozen=True)
@@ -30,14 +36,20 @@ class Side:
     name: str
     script: Script
     demands: list[Rates]
+    free: Script | None = None
+    """The script without works, if cars that cannot enter wait before the road; otherwise they are lost."""
 
 
 def run_side(side: Side, seed: int | str, window: Window, with_rows: bool) -> RoadRun:
     """Run a day of a road, and count in a window."""
-    with RoadLab(side.script.with_seed(seed).plan) as lab:
-        for line in side.script.commands:
-            lab.ask(line)
-        return read_run(lab, "A", window, side.demands, period=PERIOD, with_rows=with_rows)
+    script, last = side.script.with_seed(seed), window.last
+    with RoadLab(script.plan) as lab:
+        ask_edits(lab, script.commands)
+        arrivals = {} if side.free is None else find_arrivals(script, side.free.with_seed(seed), last)
+        queues = let_wait(lab, "A", arrivals, last)
+        run = read_run(lab, "A", window, side.demands, period=PERIOD, with_rows=with_rows)
+    return dataclasses.replace(run, arrived=name_by_arrival(run.trips, arrivals, queues),
+                               waiting={inlet: queue.waiting for inlet, queue in queues.items()})
 
 
 def run_sides(sides: Sequence[Side], seeds: Sequence[int | str], window: Window,
@@ -51,9 +63,21 @@ def run_sides(sides: Sequence[Side], seeds: Sequence[int | str], window: Window,
 # The table
 
 def make_table(sides: Sequence[Side], days: Sequence[Sequence[RoadRun]], window: Window) -> list[FigureRow]:
-    """Return the figures over all days."""
-    figures = [figure for figure in list_figures(sides[0].script.plan) if figure.key in KEYS and (figure.of_change is None or len(sides) == 2)]
-    return compare(figures, [measure_day(figures, *runs) for runs in days])
+    """Return the figures over all days. Those of cars that wait before the road are left out if nobody waits."""
+    waiting = {inlet for runs in days for run in runs for inlet in run.waiting if any(run.list_waiting(inlet))}
+    keys = (*KEYS, *(WAITING_KEYS if waiting else ()))
+    figures = [figure for figure in list_figures(sides[0].script.plan) if figure.key in keys and (figure.of_change is None or len(sides) == 2)
+               and (figure.key not in WAITING_KEYS or figure.of.inlet in {None, *waiting})]
+    rows = compare(figures, [measure_day(figures, *runs) for runs in days])
+    grow = [any(run.list_waiting(inlet)[-1:] > [0] for run in runs for inlet in run.waiting) for runs in zip(*days)]
+    return [with_bound(row, sides, grow) if any(grow) and row.figure.key in GROWING_KEYS else row for row in rows]
+
+
+def with_bound(row: FigureRow, sides: Sequence[Side], grow: Sequence[bool]) -> FigureRow:
+    """Return a row that says that cars of some sides still wait in the last row."""
+    names = " and ".join(f"on the road {side.name}" for side, grows in zip(sides, grow) if grows)
+    return dataclasses.replace(row, bound="at least" if grow[-1] and not all(grow[:-1] or [False]) else "at most" if not grow[-1] else "unknown",
+                               words=f"Cars still wait at the end {names}: the figures of delay and waiting do not include what these cars lose later.")
 
 
 def make_records(sides: Sequence[Side], rows: Sequence[FigureRow]) -> list[Record]:
@@ -66,6 +90,8 @@ def make_records(sides: Sequence[Side], rows: Sequence[FigureRow]) -> list[Recor
         if len(sides) == 2:
             record.update({"difference": row.difference.mean, "± difference": row.difference.half,
                            "may be chance": None if row.may_be_chance is None else "yes" if row.may_be_chance else "no"})
+        if any(one.bound for one in rows):
+            record["bound"] = row.bound
         found.append(record)
     return found
 

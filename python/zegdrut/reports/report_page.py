@@ -26,8 +26,8 @@ NO_SPEED_BANDS = ('<p class="note">The charts of speeds have no intervals: on so
                   'speed.</p>')
 NO_BANDS = f'<p class="note">With fewer than {FEW_DAYS} days the charts have no intervals.</p>'
 MISSING = ("more than one lane: there is no overtaking, and all figures are per lane", "off-ramps, junctions and trucks: all cars behave "
-           "as their zone says", "a queue before an inlet: demand that finds no place is lost", "speeds between whole cells per second, "
-           "which are 27 km/h apart (a cell is 7.5 m)")
+           "as their zone says", "a road before its inlets: demand that finds no place is lost, unless the table says that it waits",
+           "speeds between whole cells per second, which are 27 km/h apart (a cell is 7.5 m)")
 STYLE = """
 @page { size: A4; margin: 12mm }
 body { font: 10.5pt/1.35 sans-serif; color: #111; max-width: 1000px; margin: 1.5em auto; padding: 0 1em }
@@ -79,12 +79,14 @@ def make_table_html(sides: Sequence[Side], rows: Sequence[FigureRow], days: int)
         shown = (row.before, row.after, row.difference) if len(sides) == 2 else (row.after,)
         cells = [format_fixed(value, row.figure.digits, ",") for mean in shown for value in mean]
         cells += [CHANCE * bool(row.may_be_chance)] if len(sides) == 2 else []
-        lines.append(f"<tr><td>{escape(row.figure.title)}</td>" + "".join(f"<td>{cell}</td>" for cell in cells) + "</tr>")
+        title = f"{row.figure.title} ({row.bound})" if row.bound else row.figure.title
+        lines.append(f"<tr><td>{escape(title)}</td>" + "".join(f"<td>{cell}</td>" for cell in cells) + "</tr>")
     said = ("± is half the 95 % interval of the mean (Student's t), in the unit of its row; for the difference it is paired by day. "
             f"“{CHANCE}”: the interval of the difference contains 0; a figure that does not differ on any day has no remark. A speed is the mean of the days' time-mean speeds." if days > 1
             else "One day has no interval.")
+    words = [escape(one) for one in sorted({row.words for row in rows if row.words})]
     return (f'<table><thead><tr><th>{f"mean of {days} days" if days > 1 else "one day"}</th>{head}</tr></thead><tbody>{"".join(lines)}</tbody>'
-            f'</table><p class="note">{said}</p>')
+            f'</table><p class="note">{" ".join([said, *words])}</p>')
 
 
 def make_fields_html(contents: Contents) -> str:

@@ -438,10 +438,3 @@ def count_demand(rates: Sequence[tuple[int, float]], first: int, last: int) -> f
     `rates` are (step, cars per hour) in rising steps, each in force until the next. Before the first one the demand is 0."""
     ends = [step for step, _ in rates[1:]] + [last]
     return sum(rate * max(0, min(end, last) - max(step, first)) for (step, rate), end in zip(rates, ends)) / HOUR
-
-
-def demand_from_chances(admission: Admission, chances: Sequence[tuple[int, int]]) -> list[tuple[int, float]]:
-    """Return the demand in cars per hour that inflow chances stand for, which is the flow that they admit with the drivers of the plan.
-
-    Edits of the drivers or the limit at the inlet do not change the demand: the cars that they hold back are lost demand."""
-    return [(step, admission.admitted(chance)) for step, chance in chances]

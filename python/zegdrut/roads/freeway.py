@@ -307,18 +307,19 @@ def make_stalled_edits(notes: list[str], figures: Figures, road: Road) -> Iterat
             yield "block", cell, to_steps(car.end), 0
 
 
-Shape = tuple[str, int, int, int, int, int]
-"""A value on objects over time: kind, first and last index, first step, step after the last, value."""
+Shape = tuple[str, int, int, int, Optional[int], int]
+"""A value on objects over time: kind, first and last index, first step, step after the last (None: it has no end), value."""
 
 
 def make_shapes(figures: Figures, road: Road, chances: list[list[tuple[int, int]]]) -> Iterator[Shape]:
-    """Yield the demand over time, the sections and the stalled cars as shapes, from the lowest layer to the topmost."""
+    """Yield the demand over time, the sections and the stalled cars as shapes, from the lowest layer to the topmost.
+
+    The last demand of an inlet and the slow-to-start chance of the whole road stay in force after the file's last minute."""
     for inlet, changes in enumerate(chances):
-        ends = [step for step, _ in changes[1:]] + [road.steps]
-        for (step, chance), end in list(zip(changes, ends))[1:]:
-            yield "inflow", inlet, inlet, step, end, chance
+        for place, (step, chance) in enumerate(changes[1:], 2):
+            yield "inflow", inlet, inlet, step, changes[place][0] if place < len(changes) else None, chance
     if road.start is not None:
-        yield "start", road.entry, road.zones - 1, 0, road.steps, road.start
+        yield "start", road.entry, road.zones - 1, 0, None, road.start
     for section in figures.sections:
         zones = find_zones(section, road)
         given = {"limit": (section.limit, to_limit), "slow": (section.slowing, to_chance), "start": (section.start, to_chance)}

@@ -89,6 +89,8 @@ impl PieceJob {
     pub fn new(input: Arc<StepInput>, piece: Piece) -> PieceJob
         requires order { piece.first ≤ piece.end }
         requires within { piece.end ≤ length (cars_of (arc_value input).road) }
+        ensures input { result.input ≡ input }
+        ensures piece { result.piece ≡ piece }
     {
         PieceJob { input, piece }
     }
@@ -114,6 +116,9 @@ impl StretchJob {
         requires order { stretch.first ≤ stretch.end }
         requires short { stretch.end ≤ GREATEST_LENGTH }
         requires runnable { IsRunnableNear stretch.first stretch.end span near }
+        ensures span { result.span ≡ span }
+        ensures near { result.near ≡ near }
+        ensures stretch { result.stretch ≡ stretch }
     {
         StretchJob {
             span,

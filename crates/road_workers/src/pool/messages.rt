@@ -1,8 +1,9 @@
 //! The results of sending to the workers of a pool, and of waiting for them.
 
-ghost use Rattle.std.specs.Prelude.{◌≡◌, ◌<◌, ◌≤◌, ℕ, Ok, Err, IfErr, IsOk};
+ghost use Rattle.std.specs.Prelude.{◌≡◌, ◌<◌, ◌≤◌, ℕ, Ok, Err, IfErr, IsOk, OnOk, true};
 ghost use Rattle.crossbeam_channel.specs.declared.err.SendError.TheVariants as Send;
 ghost use Rattle.crossbeam_channel.specs.declared.err.RecvError.{RecvError};
+ghost use Rattle.road_workers.specs.Private.Lost.{TellsLost};
 ghost use Rattle.road_workers.specs.declared.faults.CrewFault.TheVariants as Fault;
 ghost use Rattle.road_workers.specs.declared.pool.job.Done.{Done};
 ghost use Rattle.road_workers.specs.declared.pool.job.Job.{Job};
@@ -20,6 +21,8 @@ use std::sync::Wait;
 pub(super) struct Inbox {
     pub replies: Receiver<Reply>,
     pub lookout: Lookout,
+    // Whether the last call has lost a worker: one that took no job, or said that it has gone, or all of them.
+    pub lost: bool,
 }
 
 // Return why a job was not sent, if it was not: its worker has gone, or there was no memory for the message.
@@ -55,13 +58,28 @@ pub(super) fn send_each<F: Fn(u32) -> Result<(), CrewFault>>(
     (workers, Ok(()))
 }
 
+// Return whether a worker is lost, by the result of sending the jobs.
+pub(super) fn is_lost(sent: Result<(), CrewFault>) -> bool
+    ensures { TellsLost sent result }
+{
+    match sent {
+        Err(CrewFault::WorkersGone) => true,
+        _ => false,
+    }
+}
+
 // Wait for the result of a job, from any worker. If a worker says instead that it has gone, or all have gone, return
-// `WorkersGone`.
+// `WorkersGone`, and note that a worker is lost.
 pub(super) fn next_done<R: Wait>(rt: &R, inbox: &mut Inbox) -> Result<Done, CrewFault>
-    ensures { IfErr result (λ fault. fault ≡ Fault.WorkersGone) }
+    ensures done { OnOk result (inbox.new.lost ≡ inbox.old.lost) }
+    ensures lost { IfErr result (λ fault. (fault ≡ Fault.WorkersGone) × (inbox.new.lost ≡ true)) }
 {
     inbox.lookout.spin_for_message(&inbox.replies);
-    result_of_receive(inbox.replies.recv(rt))
+    let done = result_of_receive(inbox.replies.recv(rt));
+    if done.is_err() {
+        inbox.lost = true;
+    }
+    done
 }
 
 // Return the result that was received, or `WorkersGone` if a worker or all workers have gone.

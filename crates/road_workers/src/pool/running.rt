@@ -1,7 +1,7 @@
 //! A span, run by the workers of a pool: each runs a stretch of the road. The caller runs one more if there is a
 //! processor for it.
 
-ghost use Rattle.std.specs.Prelude.{◌≡◌, ◌+◌, ◌<◌, ◌≤◌, length, vec_len, IfErr, IfOk, IfSome, IsOk, IsSome, OnOk, Ok, Err};
+ghost use Rattle.std.specs.Prelude.{◌≡◌, ◌+◌, ◌<◌, ◌≤◌, length, vec_len, true, IfErr, IfOk, IfSome, IsSome, OnOk};
 ghost use Rattle.road_plan.specs.declared.limits.TheConstants.{GREATEST_LENGTH, MOST_WORKERS};
 ghost use Rattle.road_cells.specs.Cars.{cars_of};
 ghost use Rattle.road_ends.specs.Span.{span_road};
@@ -10,13 +10,14 @@ ghost use Rattle.road_columns.specs.RoadOrRun.{road_now};
 ghost use Rattle.road_columns.specs.UnderWay.{IsRunnable};
 ghost use Rattle.road_workers.specs.Crews.{CanBeRun};
 ghost use Rattle.road_workers.specs.Private.Gathered.{AreRun, AreThere};
+ghost use Rattle.road_workers.specs.Private.Lost.{TellsLost};
 ghost use Rattle.road_workers.specs.Private.Stretches.{IsJoined, cut};
 ghost use Rattle.road_workers.specs.declared.faults.CrewFault.TheVariants as Fault;
 
 use crate::faults::CrewFault;
 use crate::kept_run::KeptRun;
 use crate::pool::job::{Done, Job, StretchAnswer, StretchJob};
-use crate::pool::messages::{Inbox, next_done, result_of_send, send_each};
+use crate::pool::messages::{Inbox, is_lost, next_done, result_of_send, send_each};
 use crate::pool::places::{are_there, places_for};
 use crate::pool::sharing::{Shares, is_shared};
 use crate::pool::side_by_side::{accept_run, put_side_by_side};
@@ -66,47 +67,49 @@ impl<R: Wait> Pool<R> {
             road: &road,
             own,
         };
-        let joined = self.run_side_by_side(alloc, shares)?;
+        let joined = run_side_by_side(
+            &self.rt,
+            alloc,
+            shares,
+            self.workers.as_slice(),
+            &mut self.inbox,
+            &mut self.kept,
+        )?;
         Ok(Some(whole_run(span, &road, cells, joined)))
-    }
-
-    // Run a span by the stretches of all workers, and the caller's own.
-    #[tactic(auto, using(crate::proofs::OneMore::missing_right))]
-    fn run_side_by_side(&mut self, alloc: Global, shares: Shares) -> Result<Joined, CrewFault>
-        requires own { shares.own ≤ 1 }
-        requires runnable { IsRunnable 0 shares.span.now.plan.cells shares.span.now.plan shares.road.now }
-        ensures joined { IfOk result
-            (IsJoined shares.entry.span.now.plan.cells shares.entry.span.now shares.entry.road.now) }
-        ensures unchanged { self.new ≡ self.old }
-    {
-        let workers = self.workers.as_slice();
-        let mut places = places_for(alloc, workers.len() as u32)?;
-        let rt = &self.rt;
-        let count = workers.len() as u32;
-        let (jobs, sent) = send_each(count, |worker| {
-            send_stretch(rt, alloc, shares, workers, worker)
-        });
-        let front = run_own_stretch(alloc, shares, count, &mut self.kept);
-        let taken = take_stretches(rt, &mut self.inbox, &mut places, jobs, shares);
-        let front = check_answers(taken, sent, front)?;
-        Ok(put_side_by_side(shares, front, places)?)
     }
 }
 
-// Return the result of the caller's stretch, if each worker was sent its job and has answered. If there are several
-// faults, return the first of these: a lost worker, why a job was not sent, the caller's own lack of memory.
-fn check_answers(
-    taken: Result<(), CrewFault>,
-    sent: Result<(), CrewFault>,
-    front: Result<Joined, OutOfMemory>,
+// Run a span by the stretches of all workers, and the caller's own. If there are several faults, return the first of
+// these: a lost worker, why a job was not sent, the caller's own lack of memory.
+#[tactic(auto, using(crate::proofs::OneMore::missing_right))]
+fn run_side_by_side<R: Wait>(
+    rt: &R,
+    alloc: Global,
+    shares: Shares,
+    workers: &[Worker],
+    inbox: &mut Inbox,
+    kept: &mut KeptRun,
 ) -> Result<Joined, CrewFault>
-    ensures lost { IfErr taken (λ fault. result ≡ Err fault) }
-    ensures unsent { IsOk taken → IfErr sent (λ fault. result ≡ Err fault) }
-    ensures ran { IfOk result (λ joined. (taken ≡ Ok tt) × (sent ≡ Ok tt) × (front ≡ Ok joined)) }
+    requires some { 0 < length workers.now }
+    requires few { length workers.now ≤ MOST_WORKERS }
+    requires own { shares.own ≤ 1 }
+    requires runnable { IsRunnable 0 shares.span.now.plan.cells shares.span.now.plan shares.road.now }
+    ensures joined { IfOk result
+        (IsJoined shares.entry.span.now.plan.cells shares.entry.span.now shares.entry.road.now) }
+    ensures lost { TellsLost result inbox.new.lost }
 {
-    taken?;
+    inbox.lost = false;
+    let count = workers.len() as u32;
+    let mut places = places_for(alloc, count)?;
+    let (jobs, sent) = send_each(count, |worker| {
+        send_stretch(rt, alloc, shares, workers, worker)
+    });
+    inbox.lost = is_lost(sent);
+    let front = run_own_stretch(alloc, shares, count, kept);
+    take_stretches(rt, inbox, &mut places, jobs, shares)?;
     sent?;
-    Ok(front?)
+    let front = front?;
+    Ok(put_side_by_side(shares, front, places)?)
 }
 
 // Send a worker its stretch.
@@ -167,7 +170,8 @@ fn take_stretches<R: Wait>(
     requires own { shares.own ≤ 1 }
     requires gathered { AreRun shares.span.now shares.road.now shares.own places.old.items }
     ensures there { OnOk result (AreThere workers places.new.items) }
-    ensures lost { IfErr result (λ fault. fault ≡ Fault.WorkersGone) }
+    ensures heard { OnOk result (inbox.new.lost ≡ inbox.old.lost) }
+    ensures lost { IfErr result (λ fault. (fault ≡ Fault.WorkersGone) × (inbox.new.lost ≡ true)) }
     ensures count { vec_len places.new ≡ vec_len places.old }
     ensures gathered { AreRun shares.entry.span.now shares.entry.road.now shares.entry.own places.new.items }
 {

@@ -1,11 +1,12 @@
 //! A step, computed by the workers of a pool: each computes a piece of the cars.
 
-ghost use Rattle.std.specs.Prelude.{◌≡◌, ◌<◌, ◌≤◌, length, vec_len, IfErr, IfOk, OnOk};
+ghost use Rattle.std.specs.Prelude.{◌≡◌, ◌<◌, ◌≤◌, length, vec_len, true, IfErr, IfOk, OnOk};
 ghost use Rattle.std.specs.Arc.{arc_value};
 ghost use Rattle.road_plan.specs.declared.limits.TheConstants.{MOST_WORKERS, GREATEST_LENGTH};
 ghost use Rattle.road_cells.specs.Cars.{cars_of};
 ghost use Rattle.road_ends.specs.Input.{input_speeds};
 ghost use Rattle.road_workers.specs.Private.Gathered.{AreGathered, AreThere};
+ghost use Rattle.road_workers.specs.Private.Lost.{TellsLost};
 ghost use Rattle.road_workers.specs.declared.faults.CrewFault.TheVariants as Fault;
 
 use crate::faults::CrewFault;
@@ -13,7 +14,7 @@ use crate::piece::{Piece, PieceAnswer, cars_in, list_for};
 use crate::pool::Worker;
 use crate::pool::gathering::{accept, put_together};
 use crate::pool::job::{Done, Job, PieceJob};
-use crate::pool::messages::{Inbox, next_done, result_of_send, send_each};
+use crate::pool::messages::{Inbox, is_lost, next_done, result_of_send, send_each};
 use crate::pool::places::{are_there, places_for};
 use road_ends::StepInput;
 use std::alloc::Global;
@@ -30,15 +31,18 @@ pub(super) fn speeds_by<R: Wait>(
 ) -> Result<Vec<u8>, CrewFault>
     requires some { 0 < length workers.now }
     requires few { length workers.now ≤ MOST_WORKERS }
-    ensures { IfOk result (λ new. new.items ≡ input_speeds (arc_value input.now)) }
+    ensures speeds { IfOk result (λ new. new.items ≡ input_speeds (arc_value input.now)) }
+    ensures lost { TellsLost result inbox.new.lost }
 {
+    inbox.lost = false;
     let count = workers.len() as u32;
     let cars = cars_in(input);
     let whole = list_for(alloc, count, cars)?;
     let mut places = places_for(alloc, count)?;
-    let (jobs, all) = send_each(count, |worker| send_job(rt, input, workers, cars, worker));
+    let (jobs, sent) = send_each(count, |worker| send_job(rt, input, workers, cars, worker));
+    inbox.lost = is_lost(sent);
     take_pieces(rt, inbox, &mut places, jobs, input, cars)?;
-    all?;
+    sent?;
     Ok(put_together(whole, places, input)?)
 }
 
@@ -76,7 +80,8 @@ fn take_pieces<R: Wait>(
     requires short { cars ≤ GREATEST_LENGTH }
     requires gathered { AreGathered input.now places.old.items }
     ensures there { OnOk result (AreThere workers places.new.items) }
-    ensures lost { IfErr result (λ fault. fault ≡ Fault.WorkersGone) }
+    ensures heard { OnOk result (inbox.new.lost ≡ inbox.old.lost) }
+    ensures lost { IfErr result (λ fault. (fault ≡ Fault.WorkersGone) × (inbox.new.lost ≡ true)) }
     ensures count { vec_len places.new ≡ vec_len places.old }
     ensures gathered { AreGathered input.now places.new.items }
 {

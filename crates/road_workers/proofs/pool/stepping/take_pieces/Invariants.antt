@@ -6,6 +6,7 @@ use Rattle.road_workers.proofs.pool.stepping.take_pieces.Given as goal
 abbrev pub invariant-loop : goal.invariant-loop
 invariant-loop g l = record {
   goes_on : (goal.iterator-loop g).can_next l.iterator' × (goal.iterator-loop g).is_finite l.iterator';
+  heard : l.inbox.lost ≡ l.fn.inbox.lost;
   count : vec_len l.places ≡ vec_len l.fn.places;
   gathered : AreGathered l.input l.places.items;
 }

@@ -1,0 +1,153 @@
+"""Let cars wait before a road, and check the queue by the cars of each step and by a longer road."""
+from __future__ import annotations
+
+import dataclasses
+import unittest
+
+from zegdrut import Plan, RoadLab
+from zegdrut.figures import RoadRun, read_run
+from zegdrut.figures.trips import Window, compute_delay
+from zegdrut.program.scripts import Script
+from zegdrut.program.wire import Fields
+from zegdrut.reports.report import Side, make_table, run_side
+from zegdrut.roads.waiting import Queue, find_arrivals, find_narrow_zone, let_wait, name_by_arrival
+from zegdrut.commands.freeway import FIGURES
+
+LAST, ALWAYS = 2_400, 65_536
+CHANCE = 18_000
+CLOSED = [("block", 90, 300, 1), ("block", 90, 800, 0)]
+"""Works that close a cell of a road of 200 cells."""
+
+
+def make_script(works: list[tuple[str, int, int, int]], ramp: int = 0, upstream: int = 0, seed: int = 3, last: int = LAST,
+                has_start: bool = True) -> Script:
+    """Return a script of a road with a main inlet, and a ramp that may be shut. `upstream` are more cells before the road. Cars are slow to
+    start, or the slowing of the first zone changes during the queue."""
+    plan = Plan(length=200 + upstream, inlets=[(0, CHANCE), (50 + upstream, ramp)], zone=40, zones=[(5, 10_000)] * ((200 + upstream) // 40), words=seed)
+    edits: list[tuple[str, int, int, int]] = [("inflow", 0, 900, CHANCE - 2_000), ("inflow", 0, 1_500, CHANCE - 6_000),
+                                              *([("start", zone, 0, 20_000) for zone in range(len(plan.zones))] if has_start else
+                                                [("slow", 0, 600, 12_000)])]
+    lines: list[Fields] = [{"edit": {"at": "A", "object": [kind, index + upstream * (kind == "block")], "step": step, "value": value}}
+                           for kind, index, step, value in [*edits, *works]]
+    return Script(plan.to_line(), [*lines, {"advance": {"at": "A", "to": last}}])
+
+
+def run(script: Script, free: Script) -> tuple[RoadRun, dict[int, list[int]], dict[int, Queue], list[set[int]], list[tuple[str, int, int, int]]]:
+    """Return the run with queues, its arrivals and queues, the numbers of the cars in each row, and all edits."""
+    last = script.commands[-1]["advance"]["to"]  # type: ignore[index, call-overload]
+    with RoadLab(script.plan) as lab:
+        for line in script.commands[:-1]:
+            lab.ask(line)
+        arrivals = find_arrivals(script, free, last)
+        queues = let_wait(lab, "A", arrivals, last)
+        rows = [{car.number for car in lab.cars("A", step)} for step in range(last + 1)]
+        return (read_run(lab, "A", Window(0, last)), arrivals, queues, rows,
+                [(edit.object[0], edit.object[1], edit.step, edit.value or 0) for edit in lab.scenario("A")])
+
+
+def entries(rows: list[set[int]], inlet: int) -> list[int]:
+    """Return the steps in which cars enter at an inlet."""
+    return [step for step in range(len(rows) - 1) if step * 16 + inlet in rows[step + 1]]
+
+
+def value_at(edits: list[tuple[str, int, int, int]], kind: str, index: int, step: int, default: int) -> int:
+    return max(((date, value) for one, place, date, value in edits if (one, place) == (kind, index) and date <= step), default=(0, default))[1]
+
+
+class Waiting(unittest.TestCase):
+    def test_the_queue_step_by_step(self) -> None:
+        """Arrivals are the entries on a long free road. The cars that wait are the arrivals minus the entries, and each step has the
+        settings of the queue exactly if cars wait, else those of the script."""
+        for has_start in (True, False):
+            script, free = make_script(CLOSED, has_start=has_start), make_script([], has_start=has_start)
+            _, arrivals, queues, rows, edits = run(script, free)
+            long = free._replace(plan={**free.plan, "length": 1_000, "zones": [[5, 10_000]] * 25})
+            with RoadLab(long.plan) as lab:
+                for line in long.commands:
+                    lab.ask(line)
+                self.assertEqual(arrivals[0], entries([{car.number for car in lab.cars("A", step)} for step in range(LAST + 1)], 0))
+            entered, waiting = entries(rows, 0), queues[0].waiting
+            self.assertEqual(len(entered), len(arrivals[0]))
+            self.assertEqual(waiting, [sum(one <= step for one in arrivals[0]) - sum(one <= step for one in entered) for step in range(LAST)])
+            self.assertGreater(max(waiting), 50)
+            self.assertEqual(waiting[-1], 0)
+            plain = [(one["object"][0], one["object"][1], one["step"], one["value"]) for line in script.commands[:-1] for one in [line["edit"]]]  # type: ignore
+            for step in range(1, LAST):
+                for kind, default, held in (("inflow", CHANCE, ALWAYS), ("slow", 10_000, 0), ("start", None, 0)):
+                    usual, found = (value_at(one, kind, 0, step, value_at(one, "slow", 0, step, 10_000) if default is None else default)
+                                    for one in (plain, edits))
+                    self.assertEqual(found, held if waiting[step - 1] else usual, (kind, step))
+
+    def test_the_delay_has_all_cars(self) -> None:
+        """The delay by arrivals is the time of all cars on the road and before it, after minus before."""
+        free = make_script([])
+        runs = [run(script, free) for script in (free, make_script(CLOSED))]
+        trips = [name_by_arrival(one[0].trips, one[1], one[2]) for one in runs]
+        self.assertIs(trips[0], runs[0][0].trips)
+        steps = [sum(map(len, one[3])) + sum(one[2][0].waiting) for one in runs]
+        delay = compute_delay(*trips, Window(0, LAST))
+        self.assertEqual((delay.seconds, delay.cars), (steps[1] - steps[0], len(runs[0][1][0])))
+
+    def test_a_road_that_loses_nobody(self) -> None:
+        """Nothing is changed, and the table has the same rows with a queue and without."""
+        free = make_script([], ramp=3_000)
+        one, _, queues, _, edits = run(free, free)
+        self.assertEqual(len(edits), len(free.commands) - 1)
+        self.assertFalse(any(queues[0].waiting))
+        sides = [Side("before", free, [[(0, 900.0)], [(0, 100.0)]], with_queue) for with_queue in (None, free)]
+        tables = [make_table([side], [[run_side(side, 3, Window(60, LAST), False)]], Window(60, LAST)) for side in sides]
+        self.assertEqual([(row.figure.title, row.after, row.bound) for row in tables[0]], [(row.figure.title, row.after, row.bound) for row in tables[1]])
+
+    def test_a_ramp(self) -> None:
+        """A ramp's arrivals are its entries on the road without works. From three missing cars on they wait, and all of them enter."""
+        script, free = make_script(CLOSED, ramp=6_000), make_script([], ramp=6_000)
+        _, arrivals, queues, rows, _ = run(script, free)
+        with RoadLab(free.plan) as lab:
+            for line in free.commands:
+                lab.ask(line)
+            self.assertEqual(arrivals[1], entries([{car.number for car in lab.cars("A", step)} for step in range(LAST + 1)], 1))
+        entered, is_open = entries(rows, 1), False
+        self.assertGreater(max(queues[1].waiting), 20)
+        for step, cars in enumerate(queues[1].waiting):
+            missing = sum(one <= step for one in arrivals[1]) - sum(one <= step for one in entered)
+            is_open = missing >= (1 if is_open else 3)
+            self.assertEqual(cars, missing if is_open else 0, step)
+        self.assertFalse(is_open)
+
+    def test_a_longer_road(self) -> None:
+        """The delay is near that of a road on which the queue has place, and far above that without the cars that cannot enter."""
+        found = [0.0, 0.0, 0.0]
+        for seed in (3, 4, 5):
+            for place, (upstream, has_queue) in enumerate(((0, False), (0, True), (400, False))):
+                scripts = [make_script(works, upstream=upstream, seed=seed) for works in ([], CLOSED)]
+                sides = [Side("", script, [], scripts[0] if has_queue else None) for script in scripts]
+                before, after = (run_side(side, seed, Window(0, LAST), False).by_arrival for side in sides)
+                found[place] += compute_delay(before, after, Window(0, LAST)).seconds
+        self.assertLess(found[0], 0.75 * found[2])
+        self.assertLess(abs(found[1] - found[2]), 0.15 * found[2])
+
+    def test_at_least(self) -> None:
+        """A run that ends while cars wait says so; the cars that wait count in the delay up to then."""
+        script, free = make_script(CLOSED, last=900), make_script([], last=900)
+        sides = [Side("before", free, [[(0, 900.0)]] * 2, free), Side("after", script, [[(0, 900.0)]] * 2, free)]
+        window = Window(0, 900)
+        days = [[run_side(side, 3, window, False) for side in sides]]
+        self.assertGreater(days[0][1].waiting[0][-1], 20)
+        rows = {row.figure.title: row for row in make_table(sides, days, window)}
+        self.assertEqual({title for title, row in rows.items() if row.bound == "at least" and "on the road after" in row.words},
+                         {"delay, vehicle hours", "vehicle hours waiting before km 0", "longest queue before km 0, cars",
+                          "end of the queue before km 0, after the begin, min", "vehicle hours on the road and before it"})
+        difference = rows["vehicle hours on the road and before it"].difference.mean
+        self.assertAlmostEqual(rows["delay, vehicle hours"].difference.mean or 0, difference or -1, 9)
+        swapped = make_table(sides[::-1], [day[::-1] for day in days], window)
+        self.assertEqual({row.bound for row in swapped}, {"", "at most"})
+
+    def test_a_narrow_zone(self) -> None:
+        """A road without sections gets a first zone of at most 1.5 km; a width that the file sets stays."""
+        self.assertEqual(find_narrow_zone(800, [dataclasses.replace(FIGURES, length=6, sections=[])]), 200)
+        self.assertEqual(find_narrow_zone(150, [dataclasses.replace(FIGURES, length=6, sections=[])]), 150)
+        self.assertEqual(find_narrow_zone(400, [dataclasses.replace(FIGURES, length=6, sections=[], zone=3)]), 400)
+
+
+if __name__ == "__main__":
+    unittest.main()

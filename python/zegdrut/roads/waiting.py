@@ -1,0 +1,188 @@
+"""Let the cars that cannot enter wait before the road, so that a queue that reaches an inlet is not lost.
+
+    queues = let_wait(lab, "A", find_arrivals(script, free, last=7_200), last=7_200)
+    queues[0].waiting[3_600]                             # the cars that wait before inlet 0 after step 3,600
+
+The arrivals of an inlet are the steps in which cars would enter if the road were free. As soon as fewer cars have entered, the inlet
+admits whoever finds its cell free, until as many cars have entered as have arrived; then the settings of the road return. At the main inlet nobody is slowed in the first zone meanwhile, since a queue there would start as a jam does, from standing.
+All of this is done by edits, to the step.
+"""
+from __future__ import annotations
+
+import dataclasses
+from dataclasses import dataclass, field
+from typing import Mapping, Sequence
+
+from ..figures.trips import INLETS, Trips, entry_inlet, entry_step
+from ..program.lab import RoadLab
+from ..program.records import Edit
+from ..program.rows import FASTEST
+from ..program.scripts import Script
+from ..program.wire import Fields
+from .freeway import MOST_ZONES, Figures, sum_misfit
+from .units import ALWAYS, to_cells
+
+PIECE = 600
+"""Steps that are read at a time."""
+FREE_ROAD = 250
+"""The cells of a free road on which the arrivals of the main inlet are found."""
+LONGEST_ZONE = 200
+"""The first zone admits a queue only if it has at most these cells (1.5 km)."""
+LEAST_AT_RAMP = 3
+"""With fewer missing cars at a ramp nobody waits: the gaps between cars of the main road differ by chance."""
+
+MAIN = 0
+"""The index of the main inlet of a freeway."""
+
+Arrivals = Mapping[int, Sequence[int]]
+"""The steps in which cars arrive, by the inlet's index."""
+
+
+@dataclass
+class Queue:
+    """The queue before an inlet."""
+
+    waiting: list[int] = field(default_factory=list)
+    """The cars that wait after each step."""
+    missing: int = 0
+    """The arrivals up to a step, minus the cars that have entered."""
+    is_open: bool = False
+    """Whether cars wait."""
+
+    def count(self, has_arrived: bool, has_entered: bool, least: int) -> bool:
+        """Count a step, and return whether cars begin or cease to wait with it. They begin when `least` cars are missing."""
+        was_open = self.is_open
+        self.missing += has_arrived - has_entered
+        self.is_open = self.missing >= (1 if was_open else least)
+        self.waiting.append(self.missing if self.is_open else 0)
+        return was_open != self.is_open
+
+
+class Timeline:
+    """The values of an object over time on the road without a queue, and the edits that change them for a queue."""
+
+    def __init__(self, lab: RoadLab, at: str, thing: tuple[str, int], edits: Sequence[Edit], default: int) -> None:
+        self.lab, self.at, self.thing = lab, at, thing
+        self.values = sorted({0: default, **{edit.step: edit.value for edit in edits
+                                             if tuple(edit.object) == thing and edit.value is not None}}.items())
+
+    def put(self, step: int, held: int | None) -> None:
+        """Hold a value from a step on, or return to the values of the road if `held` is None."""
+        value = [value for date, value in self.values if date <= step][-1]
+        for date, value in [(step, value), *((date, value) for date, value in self.values if date > step)]:
+            self.lab.edit(self.at, self.thing, date, value if held is None else held)
+
+
+def make_timelines(lab: RoadLab, at: str, inlet: int) -> list[tuple[Timeline, int]]:
+    """Return what a queue before an inlet changes, with the values that it holds."""
+    plan, edits = lab.plan, lab.scenario(at)
+    found = [(Timeline(lab, at, ("inflow", inlet), edits, plan["inlets"][inlet][1]), ALWAYS)]
+    if inlet == MAIN and plan["zone"] <= LONGEST_ZONE:
+        slow, start = (Timeline(lab, at, (kind, 0), edits, plan["zones"][0][1]) for kind in ("slow", "start"))
+        if not any(tuple(edit.object) == ("start", 0) for edit in edits):
+            start.values = slow.values  # (standing cars are slowed as moving ones are)
+        found += [(one, 0) for one in (slow, start) if any(value for _, value in one.values)]
+    return found
+
+
+def find_narrow_zone(width: int, roads: Sequence[Figures]) -> int:
+    """Return the width of the widest zones of at most LONGEST_ZONE cells that fit some roads as well as zones of `width` cells do.
+
+    It is `width` if there are none, or if a file sets the width."""
+    length = to_cells(roads[0].length)
+    misfits = {one: sum(sum_misfit(road, one, length) for road in roads)
+               for one in (*range(-(-length // MOST_ZONES), LONGEST_ZONE + 1), width)}
+    narrow = [one for one, misfit in misfits.items() if one <= LONGEST_ZONE and misfit <= misfits[width]]
+    return width if width <= LONGEST_ZONE or roads[0].zone is not None else max(narrow, default=width)
+
+
+def find_entries(lab: RoadLab, at: str, inlet: int, first: int, last: int) -> list[int]:
+    """Return the steps from `first` to `last` - 1 in which cars enter at an inlet."""
+    end = lab.plan["length"] - lab.plan["exit"]
+    apart = max((end - max(int(cell) for cell, _ in lab.plan["inlets"])) // FASTEST, 1)  # (no car leaves in so few steps)
+    seen = {car.number for step in (*range(first + apart, last, apart), last) for car in lab.cars(at, step)}
+    return sorted(entry_step(number) for number in seen if entry_inlet(number) == inlet and entry_step(number) >= first)
+
+
+def let_wait(lab: RoadLab, at: str, arrivals: Arrivals, last: int) -> dict[int, Queue]:
+    """Run the replica `at` up to step `last`, and let cars wait before the inlets of `arrivals`. Return the queue of each."""
+    queues = {inlet: Queue() for inlet in arrivals}
+    timelines = {inlet: make_timelines(lab, at, inlet) for inlet in arrivals}
+    came = {inlet: frozenset(steps) for inlet, steps in arrivals.items()}
+    first = 0
+    while first < last:
+        end = min(first + PIECE, last)
+        lab.advance(at, end)
+        entered = {inlet: frozenset(find_entries(lab, at, inlet, first, end)) for inlet in arrivals}
+        changed: list[int] = []
+        while first < end and not changed:
+            changed = [inlet for inlet, queue in queues.items()
+                       if queue.count(first in came[inlet], first in entered[inlet], 1 if inlet == MAIN else LEAST_AT_RAMP)]
+            first += 1
+        for inlet in changed:
+            for timeline, held in timelines[inlet]:
+                timeline.put(first, held if queues[inlet].is_open else None)
+    return queues
+
+
+def ask_edits(lab: RoadLab, commands: Sequence[Fields]) -> None:
+    """Carry out the commands of a script, without its advance."""
+    for line in commands:
+        if "advance" not in line:
+            lab.ask(line)
+
+
+def find_arrivals(script: Script, free: Script, last: int) -> dict[int, list[int]]:
+    """Return the arrivals at the inlets of a road. `free` is its script without works.
+
+    Those at the main inlet are the entries on a short free road, those at a ramp the entries on the road without works, if it has works."""
+    found = {MAIN: find_main_arrivals(free, last)}
+    ramps = [inlet for inlet in range(len(script.plan["inlets"])) if inlet != MAIN]
+    if ramps and script.commands != free.commands:
+        with RoadLab(free.plan) as lab:
+            ask_edits(lab, free.commands)
+            let_wait(lab, "A", found, last)
+            found.update({ramp: find_entries(lab, "A", ramp, 0, last) for ramp in ramps})
+    return found
+
+
+def find_main_arrivals(free: Script, last: int) -> list[int]:
+    """Return the entries at the main inlet on a free road with the same first zones."""
+    plan = free.plan.copy()
+    zones = -(-FREE_ROAD // plan["zone"])
+    plan.update({"length": FREE_ROAD, "zone": min(plan["zone"], FREE_ROAD), "inlets": plan["inlets"][:1], "detectors": [],
+                 "zones": [plan["zones"][min(zone, len(plan["zones"]) - 1)] for zone in range(zones)]})
+    with RoadLab(plan) as lab:
+        ask_edits(lab, [line for line in free.commands if is_edit_there(line, zones)])
+        lab.advance("A", last)
+        return find_entries(lab, "A", MAIN, 0, last)
+
+
+def is_edit_there(line: Fields, zones: int) -> bool:
+    """Return whether a line edits the main inlet or one of the first zones."""
+    edit = line.get("edit")
+    if not isinstance(edit, dict):
+        return False
+    kind, index = edit["object"]
+    return bool(index < (1 if kind == "inflow" else zones if kind in ("limit", "slow", "start") else 0))
+
+
+def name_by_arrival(trips: Trips, arrivals: Arrivals, queues: Mapping[int, Queue]) -> Trips:
+    """Return trips whose cars have the numbers of their arrivals, if cars waited: the first car that entered is the first one that arrived,
+    and so on. Cars that still wait are on the road.
+
+    So a car is the same car on two roads even if it waited, and its time includes its waiting."""
+    names: dict[int, int] = {}
+    left = dict(trips.left)
+    for inlet, queue in queues.items():
+        if any(queue.waiting):
+            arrived = [step * INLETS + inlet for step in arrivals[inlet] if step < trips.horizon]
+            entered = sorted(number for number in trips.left if entry_inlet(number) == inlet)
+            names.update(zip(entered, arrived))
+            left.update(dict.fromkeys(arrived[len(entered):]))
+    if not names:
+        return trips
+    waiting = left.keys() - trips.left.keys()
+    return dataclasses.replace(trips, left={**{names.get(number, number): step for number, step in trips.left.items()},
+                                            **dict.fromkeys(waiting)},
+                               passed=[{names.get(number, number): step for number, step in steps.items()} for steps in trips.passed])
