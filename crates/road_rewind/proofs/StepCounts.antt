@@ -23,12 +23,6 @@ pub ticks_at_once : (meter k later : ℕ) → 0 < k → later ≡ min (meter + k
 ticks_at_once meter zero later some is = absurd (omega (arith, some))
 ticks_at_once meter (suc k) later some is = is ∙ at_once meter k
 
--- a bound of the ticks after earlier ticks
-pub few_after : (meter n k most count later : ℕ) → count ≡ meter_after meter n → n + k ≤ most → TicksAtMost k count later → TicksAtMost most meter later
-few_after meter n k most count later is within more =
-    let few = more.few in
-    record { ticks = n + more.ticks; few = omega (arith, few, within); counted = more.counted ∙ ap (λ (m : ℕ). meter_after m more.ticks) is ∙ more_ticks_after meter n more.ticks }
-
 -- a weaker bound
 pub more_ticks : (few most meter later : ℕ) → few ≤ most → TicksAtMost few meter later → TicksAtMost most meter later
 more_ticks few most meter later l is = let k = is.few in record { ticks = is.ticks; few = omega (arith, l, k); counted = is.counted }

@@ -1,6 +1,6 @@
 //! Rewinding: a sheet gets more edits and steps. It keeps the steps that no edit touches, and simulates the others.
 
-ghost use Rattle.std.specs.Prelude.{◌≡◌, ◌≤◌, ◌-◌, max, IfOk, OnOk};
+ghost use Rattle.std.specs.Prelude.{◌≡◌, ◌≤◌, ◌-◌, max, IfOk, OnErr, OnOk};
 ghost use Rattle.road_plan.specs.declared.limits.TheConstants.{GREATEST_HORIZON};
 ghost use Rattle.road_columns.specs.RoadOrRun.{road_now};
 ghost use Rattle.road_scenario.specs.Faults.{AreInRange};
@@ -144,7 +144,7 @@ fn simulate_span<C: Crew>(
     ensures simulated { OnOk result (draft.new ≡ sheet_after_span span.now draft.old) }
     ensures road { IfOk result (λ after. road_now after ≡ state_of draft.new draft.new.horizon) }
     ensures steps { OnOk result (meter.new ≡ meter_after meter.old span.now.steps) }
-    ensures few { TicksAtMost span.now.steps meter.old meter.new }
+    ensures none { OnErr result (meter.new ≡ meter.old) }
     ensures gone { CountsGone result (C.times_gone crew.old) (C.times_gone crew.new) }
 {
     let steps = span.steps();

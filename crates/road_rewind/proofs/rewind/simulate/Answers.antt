@@ -3,7 +3,7 @@ use Rattle.std.proofs.Common.{◌≡◌, ◌+◌, ◌-◌, ◌∙◌, ℕ, ap, s
 use Rattle.road_sheet.specs.Sheets.{Sheet}
 use Rattle.road_sheet.specs.Spans.{sheet_after_span}
 use Rattle.road_rewind.specs.Growth.{meter_after}
-use Rattle.road_rewind.proofs.StepCounts.{few_after, more_ticks_after}
+use Rattle.road_rewind.proofs.StepCounts.{more_ticks_after}
 use Rattle.road_rewind.proofs.rewind.simulate.Goals as goal
 
 pub loop-step-preserved : goal.loop-step-preserved
@@ -28,8 +28,8 @@ loop-step-preserved g c =
 
 pub returns-in_err-road-clause-few : goal.returns-in_err-road-clause-few
 returns-in_err-road-clause-few g c =
-    let step = c.loop-step.step in
-    let invariant = c.loop-step.invariant in
-    let here : c.loop-step.so_far.horizon ≡ step = ap (λ (x : Sheet). x.horizon) invariant.draft in
-    few_after c.args.meter.now (step - c.args.draft.horizon) c.in_ok-span.span.steps (c.args.to - c.args.draft.horizon) c.loop-step.meter c.simulate_span.new.meter invariant.meter
-    (omega (arith, invariant.after, here, c.in_ok-span.ensures.before, c.min-end.ensures)) c.simulate_span.ensures.few
+    let invariant = c.loop-step.invariant in record {
+      ticks = c.loop-step.step - c.args.draft.horizon;
+      few = omega (arith, invariant.after, invariant.before);
+      counted = c.in_err-road.ensures.none ∙ invariant.meter;
+    }

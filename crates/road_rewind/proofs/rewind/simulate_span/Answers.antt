@@ -21,13 +21,6 @@ pub returns-clause-steps : goal.returns-clause-steps
 returns-clause-steps g c =
     ticks_at_once c.args.meter.now c.args.span.now.steps c.count.new.self c.requires.next.some (c.count.ensures ∙ ap (λ (n : ℕ). min (c.args.meter.now + n) (2 ^ 64 - 1)) c.steps-steps.ensures.steps)
 
-pub returns-clause-few : goal.returns-clause-few
-returns-clause-few g c = record {
-  ticks = c.args.span.now.steps;
-  few = omega arith;
-  counted = ticks_at_once c.args.meter.now c.args.span.now.steps c.count.new.self c.requires.next.some (c.count.ensures ∙ ap (λ (n : ℕ). min (c.args.meter.now + n) (2 ^ 64 - 1)) c.steps-steps.ensures.steps);
-}
-
 pub returns-clause-road : goal.returns-clause-road
 returns-clause-road g c =
     let ran = rw c.in-Some.is at c.in_ok-ran.ensures.road in
