@@ -49,6 +49,11 @@ def write_record(path: Path, text: str, proved: bool, checks: bool) -> None:
     programs.write_record(path, text, proved, checks, kit)
 
 
+def note_path(path: Path) -> None:
+    """Note the path of a program for packages that are installed outside the repository."""
+    programs.note_path(path)
+
+
 def current_path(name: str, with_checks: bool = True) -> Path | None:
     """Return a program that was made from the present source text, the proved one if there are two, or None if it was never made.
 

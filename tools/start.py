@@ -30,7 +30,7 @@ from pathlib import Path
 from types import ModuleType
 
 import packages
-from built_programs import LABORATORY, TOP, crate_of, current_path, describe_standing, find_unwritable, unproved_path
+from built_programs import LABORATORY, TOP, crate_of, current_path, describe_standing, find_unwritable, note_path, unproved_path
 
 SHOWN = 5  # README.md explains this many lines of the first script
 SERVE = TOP / "live" / "serve"
@@ -130,6 +130,7 @@ def provide_program() -> Path:
             raise Problem(f"ROAD_LAB names {given}, which is not a program. Unset it, or name a program.")
         return Path(given).absolute()
     program = current_path(LABORATORY) or make_program()
+    note_path(program)
     standing = describe_standing(program)
     if standing:
         print(standing, file=sys.stderr, flush=True)

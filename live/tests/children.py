@@ -8,7 +8,7 @@ from typing import Any
 
 from counting_child import Asked, Told
 from faulty import soon
-from running import Case, program, until
+from running import PATIENCE, Case, program, until
 from server.figures.child import Child
 from server.tabs.refusals import Refused
 
@@ -22,7 +22,7 @@ def runs(process: int) -> bool:
 
 class Children(Case):
     async def asyncSetUp(self) -> None:
-        self.child: Child[Asked, Told] = Child("tests.counting_child", 5, 60)
+        self.child: Child[Asked, Told] = Child("tests.counting_child", 5, PATIENCE)
         self.addCleanup(self.child.close)
         self.heard: list[Told] = []
 
@@ -67,10 +67,11 @@ class Children(Case):
         self.assertEqual((await soon(self.ask(2)))["number"], 2)
 
     async def test_no_answer_in_time_is_refused_and_ends_the_process(self) -> None:
-        self.child = Child("tests.counting_child", 5, 5)
-        fault = await self.refused(self.ask(1, "hang"))
-        self.assertEqual((fault.text, fault.why), ("TooLong", "this took more than 5 seconds: choose a shorter period"))
-        await self.has_ended(self.heard[0]["process"])
+        process = (await soon(self.ask(1)))["process"]
+        self.child._patience = 2
+        fault = await self.refused(self.ask(0, "hang"))
+        self.assertEqual((fault.text, fault.why), ("TooLong", "this took more than 2 seconds: choose a shorter period"))
+        await self.has_ended(process)
 
     async def test_closing_ends_the_question_and_leaves_the_next_one_alone(self) -> None:
         question, process = await self.hangs()

@@ -13,6 +13,7 @@ from test_page import TOP, find_python
 from zegdrut.__main__ import COMMANDS
 from zegdrut.program.programs import program_path
 
+DEBIAN = "/usr/bin/python3"
 SCRIPT = '{"length":12,"exit":1,"zone":12,"zones":[[2,0]],"inlets":[[0,65536]],"detectors":[],"words":7,"replicas":["A"]}\n{"advance":{"to":6}}\n'
 
 
@@ -41,20 +42,59 @@ class Package(unittest.TestCase):
             self.check_package(python, TOP)
 
     def test_installed_by_pip(self) -> None:
-        """Install with Debian's setuptools, without a network."""
-        python = find_python("setuptools, wheel, pip")
-        if python is None:
-            self.skipTest("pip, setuptools and wheel not installed")
-        source = shutil.copytree(TOP, self.folder / "source", ignore=shutil.ignore_patterns("__pycache__", "build", "*.egg-info"))
-        ran = self.run_python("-m", "pip", "install", "--no-index", "--no-build-isolation", "--no-deps", "--quiet",
-                              "--disable-pip-version-check", "--root-user-action=ignore", "--target", str(self.folder / "site"),
-                              str(source), python=python)
-        self.assertEqual(ran.returncode, 0, ran.stdout + ran.stderr)
-        names = sorted(path.name for path in (self.folder / "site").iterdir() if path.suffix != ".dist-info" and path.name != "bin")
-        self.assertEqual(names, ["zegdrut"])
-        for name in ("py.typed", "commands/differences.gnuplot"):
-            self.assertTrue((self.folder / "site" / "zegdrut" / name).exists(), name)
-        self.check_package(python, self.folder / "site")
+        """Install in fresh virtual environments, and with Debian's own Python as the page says, without options for pip, network or wheel.
+
+        Nothing is left in the sources. The installed package finds the program by its path in the user's data folder.
+        """
+        source = shutil.copytree(TOP, self.folder / "source", ignore=shutil.ignore_patterns("__pycache__", ".mypy_cache"))
+        before = sorted(path.relative_to(source) for path in source.rglob("*"))
+        quiet = {"PIP_NO_INDEX": "1", "PIP_DISABLE_PIP_VERSION_CHECK": "1", "PIP_ROOT_USER_ACTION": "ignore", "PIP_QUIET": "1"}
+        clean = {name: value for name, value in os.environ.items() if name not in ("PYTHONPATH", "PYTHONDONTWRITEBYTECODE", "ROAD_LAB")}
+        data = self.folder / "data" / "zegdrut"
+        data.mkdir(parents=True)
+        (data / "program").write_text(f"{program_path().resolve()}\n", encoding="utf-8")
+        for number, python in enumerate(dict.fromkeys([sys.executable, DEBIAN, f"{DEBIAN} "])):
+            base = self.folder / f"installed {number}"
+            environment = {**clean, **quiet, "PYTHONUSERBASE": str(base), "PATH": f"{base}/bin:{clean['PATH']}", "XDG_DATA_HOME": str(data.parent)}
+            options = ["--user", "--break-system-packages"] if python.endswith(" ") else []
+            if find_python("pip, ensurepip") is None or not Path(python.strip()).exists():
+                self.skipTest("pip or ensurepip not installed")
+            if options:
+                python = DEBIAN
+            else:
+                subprocess.run([python, "-m", "venv", str(base)], check=True)
+                python = str(base / "bin" / "python3")
+            ran = subprocess.run([python, "-m", "pip", "install", *options, "./source"], cwd=self.folder, capture_output=True, text=True, check=False,
+                                 env=environment)
+            self.assertEqual((ran.returncode, ran.stderr), (0, ""), ran.stdout)
+            self.assertEqual(sorted(path.relative_to(source) for path in source.rglob("*")), before)
+            code = ("import zegdrut; lab = zegdrut.RoadLab(zegdrut.Plan(length=12, inlets=[(0, 65_536)], zones=[(2, 0)]))\n"
+                    "lab.advance('A', 6); print(lab.cells('A', 6)); print(zegdrut.__file__)")
+            ran = subprocess.run([python, "-c", code], cwd=self.folder, capture_output=True, text=True, check=False, env=environment)
+            row, place = ran.stdout.splitlines() or ("", "")
+            self.assertEqual(row, "0..2...2....", ran.stderr)
+            site = Path(place).parents[1]
+            self.assertTrue(site.is_relative_to(base), site)
+            packed = sorted(path.relative_to(site) for path in (site / "zegdrut").rglob("*") if path.is_file() and path.suffix != ".pyc")
+            self.assertEqual(packed, sorted(path.relative_to(source) for path in (source / "zegdrut").rglob("*") if path.is_file()))
+            ran = subprocess.run([str(base / "bin" / "zegdrut"), "program"], cwd=self.folder, capture_output=True, text=True, check=False,
+                                 env=environment)
+            self.assertEqual(ran.stdout.strip(), str(program_path().resolve()), ran.stderr)
+            ran = subprocess.run([python, "-m", "pip", "show", "--files", "zegdrut"], capture_output=True, text=True, check=False,
+                                 env={**environment, "PIP_QUIET": "0"})
+            self.assertIn("Version: 1.0\n", ran.stdout)
+
+    def test_the_archive_of_the_sources(self) -> None:
+        """Make the archive of the sources, and a wheel from it: this is the wheel of the sources."""
+        code = ("import sys; sys.path.insert(0, sys.argv[1] + '/build_backend'); sys.dont_write_bytecode = True\n"
+                "import zegdrut_build; print(zegdrut_build.build_sdist('.'), zegdrut_build.build_wheel('.'))")
+        ran = subprocess.run([sys.executable, "-c", code, str(TOP)], cwd=self.folder, capture_output=True, text=True, check=True)
+        sources, wheel = ran.stdout.split()
+        first = (self.folder / wheel).read_bytes()
+        shutil.unpack_archive(self.folder / sources, self.folder)
+        subprocess.run([sys.executable, "-c", code, str(self.folder / sources.removesuffix(".tar.gz"))], cwd=self.folder, check=True,
+                       stdout=subprocess.DEVNULL)
+        self.assertEqual((self.folder / wheel).read_bytes(), first)
 
     def test_types(self) -> None:
         mypy = shutil.which("mypy")
@@ -63,17 +103,28 @@ class Package(unittest.TestCase):
         cache = str(TOP / ".mypy_cache")
         (self.folder / "model.py").write_text("from zegdrut import Plan, RoadLab\n"
                                               "lab = RoadLab(Plan(length='9', inlets=[], zones=[(5, 0)]))\n"
-                                              "reveal_type(lab.cells('A', 3))\n", encoding="utf-8")
+                                              "reveal_type(lab.cells('A', 3))\n"
+                                              "lab.edit('A', ('bloc', 24), 3, 1)\nlab.edit('A', ('block', 24), 3, 1)\n", encoding="utf-8")
         ran = subprocess.run([mypy, "--cache-dir", cache, "model.py"], capture_output=True, text=True, check=False,
                              cwd=self.folder, env={**os.environ, "MYPYPATH": str(TOP)})
         self.assertIn('Argument "length" to "Plan" has incompatible type "str"', ran.stdout)
         self.assertIn('Revealed type is "builtins.str"', ran.stdout)
+        self.assertIn("model.py:4: error: Argument 2", ran.stdout)
+        self.assertNotIn("model.py:5", ran.stdout)
 
     def test_help(self) -> None:
         for command in COMMANDS:
             ran = self.run_python("-m", "zegdrut", command, "--help")
             self.assertEqual((ran.returncode, ran.stderr), (0, ""), command)
             self.assertIn(f"python3 -m zegdrut {command}", ran.stdout)
+        for command in ("--help", *COMMANDS):
+            with self.subTest("nobody reads the help", command=command):
+                reading, writing = os.pipe()
+                os.close(reading)
+                ran = subprocess.run([sys.executable, "-m", "zegdrut", command, "--help"], stdout=writing, stderr=subprocess.PIPE, text=True,
+                                     check=False, cwd=self.folder, env={**os.environ, "PYTHONPATH": str(TOP)})
+                os.close(writing)
+                self.assertEqual(ran.stderr, "")
         ran = self.run_python("-m", "zegdrut", "fly")
         self.assertEqual((ran.returncode, ran.stderr), (2, f"unknown command 'fly': the commands are {' '.join(COMMANDS)} program\n"))
 

@@ -14,9 +14,9 @@ from .program.errors import Ended, Fault, LabBroken, LabCancelled, LabError, Lab
 from .program.lab import RoadLab
 from .program.plan import Plan
 from .program.programs import NoProgram, program_path
-from .program.records import Car, Count, Crowd, Edit, Head, Lost, Object, Stamp, find_lost
+from .program.records import Car, Count, Crowd, Edit, Head, Kind, Lost, Object, Stamp, find_lost
 from .program.rows import BLOCKED, EMPTY, Traffic, to_array, measure_traffic
 
-__all__ = ["BLOCKED", "Car", "Count", "Crowd", "EMPTY", "Edit", "Ended", "Fault", "Head", "LabBroken", "LabCancelled", "LabError",
+__all__ = ["BLOCKED", "Car", "Count", "Crowd", "EMPTY", "Edit", "Ended", "Fault", "Head", "Kind", "LabBroken", "LabCancelled", "LabError",
            "LabTimeout", "Lost", "NoProgram", "Object", "Plan", "Refused", "RoadLab", "Stamp", "Traffic", "find_lost", "measure_traffic",
            "program_path", "to_array"]

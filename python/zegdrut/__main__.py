@@ -28,10 +28,15 @@ INTERRUPTED = 130
 def main(words: Sequence[str] | None = None) -> int:
     """Run the command that the arguments name. Return its exit status."""
     command, *rest = (sys.argv[1:] if words is None else list(words)) or ["--help"]
+    return run(lambda: choose(command, rest))
+
+
+def choose(command: str, rest: list[str]) -> int:
+    """Run a command with its arguments. Return its exit status."""
     if command == "program":
-        return run(show_program)
+        return show_program()
     if command in COMMANDS:
-        return run(lambda: int(importlib.import_module(f"zegdrut.commands.{command}").main(rest)))
+        return int(importlib.import_module(f"zegdrut.commands.{command}").main(rest))
     if command in ("-h", "--help"):
         print((__doc__ or "").strip())
         return 0
@@ -43,9 +48,10 @@ def run(command: Callable[[], int]) -> int:
     """Run a command. Return its exit status, also after Ctrl-C or if the reader of its output has gone."""
     signal.signal(signal.SIGINT, signal.default_int_handler)
     try:
-        status = command()
-        sys.stdout.flush()
-        return status
+        try:
+            return command()
+        finally:  # (also after `--help`, which ends by an exception)
+            sys.stdout.flush()
     except KeyboardInterrupt:
         print("interrupted", file=sys.stderr)
         return INTERRUPTED

@@ -1,7 +1,7 @@
 """Plans of roads."""
 from __future__ import annotations
 
-from dataclasses import dataclass, field
+from dataclasses import dataclass
 from typing import Sequence
 
 from .checks import check_list, check_pair, check_text, check_whole
@@ -13,7 +13,7 @@ ALWAYS = 65_536
 
 @dataclass(frozen=True)
 class Plan:
-    """A road of `length` cells.
+    """A road of `length` cells. Plans can be compared, and be keys of a dictionary.
 
     length: 8 to 8,192 cells.
     inlets: a (cell, inflow chance) for each inlet, with chances in 1/65,536.
@@ -33,13 +33,13 @@ class Plan:
     zones: Sequence[tuple[int, int]]
     zone: int | None = None
     exit: int = 1
-    detectors: Sequence[int] = field(default_factory=list)
+    detectors: Sequence[int] = ()
     words: int | str = 7
-    replicas: Sequence[str] = field(default_factory=lambda: ["A"])
+    replicas: Sequence[str] = ("A",)
 
     def __post_init__(self) -> None:
         for name, value in self._checked().items():
-            object.__setattr__(self, name, value)
+            object.__setattr__(self, name, tuple(value) if isinstance(value, list) else value)
 
     def _checked(self) -> dict[str, object]:
         zones = [check_pair(f"zones[{index}]", one, "limit", "slow") for index, one in enumerate(check_list("zones", self.zones, "zones"))]
@@ -59,5 +59,5 @@ class Plan:
     def to_line(self) -> PlanLine:
         """Return the plan as the first line of a script."""
         zone = -(-self.length // len(self.zones)) if self.zone is None else self.zone
-        return {"length": self.length, "inlets": self.inlets, "zones": self.zones, "zone": zone, "exit": self.exit,
-                "detectors": self.detectors, "words": self.words, "replicas": self.replicas}
+        return {"length": self.length, "inlets": list(self.inlets), "zones": list(self.zones), "zone": zone, "exit": self.exit,
+                "detectors": list(self.detectors), "words": self.words, "replicas": list(self.replicas)}

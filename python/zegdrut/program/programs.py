@@ -181,8 +181,9 @@ def program_path() -> Path:
     """Return the path of the program, and print the note about it once on standard error.
 
     This is ROAD_LAB if it is set. Otherwise it is the proved program of this repository, or the unproved one if there is no
-    proved one or only the unproved one is up to date. Outside the repository it is `road_lab` on the PATH. If there is no
-    program at all, it is the path that the proved one would have.
+    proved one or only the unproved one is up to date. Outside the repository it is `road_lab` on the PATH, or the one whose path
+    `./start` or `tools/prove-program` has written into the user's data folder. If there is no program at all, it is the path that the
+    proved one would have.
     """
     path, expected = find_program(), _EXPECTED.get()
     if expected is not None and describe_once(path, path.stat().st_mtime_ns if path.exists() else 0) != expected:
@@ -249,7 +250,28 @@ def choose_program() -> Path:
         return UNPROVED if is_stale(PROVED, PROVED.stat().st_mtime_ns) and not is_stale(UNPROVED, UNPROVED.stat().st_mtime_ns) else PROVED
     if UNPROVED.exists():
         return UNPROVED
-    return PROVED if PROVED.exists() or is_repository() else Path(shutil.which("road_lab") or PROVED)
+    return PROVED if PROVED.exists() or is_repository() else Path(shutil.which("road_lab") or read_noted_path() or PROVED)
+
+
+def noted_path() -> Path:
+    """Return the file in the user's data folder that has the path of a program, for packages outside the repository."""
+    return Path(os.environ.get("XDG_DATA_HOME") or Path.home() / ".local" / "share") / "zegdrut" / "program"
+
+
+def note_path(path: Path) -> None:
+    """Write the path of a program into the user's data folder, if it can be written."""
+    with contextlib.suppress(OSError):
+        noted_path().parent.mkdir(parents=True, exist_ok=True)
+        noted_path().write_text(f"{path.absolute()}\n", encoding="utf-8")
+
+
+def read_noted_path() -> Path | None:
+    """Return the path in the user's data folder, or None if there is none or its program has gone."""
+    try:
+        path = Path(noted_path().read_text(encoding="utf-8").strip())
+    except (OSError, RuntimeError):
+        return None
+    return path if path.is_file() else None
 
 
 @functools.cache

@@ -1,12 +1,14 @@
 """Records of replies: stamps, edits, cars and counts."""
 from __future__ import annotations
 
-from typing import Iterable, NamedTuple
+from typing import Iterable, Literal, NamedTuple, cast
 
 from .checks import check_object, check_whole
 from .wire import WrittenEdit, WrittenHead
 
-Object = tuple[str, int]
+Kind = Literal["limit", "slow", "block", "inflow", "watch", "start"]
+"""What an edit sets."""
+Object = tuple[Kind, int]
 """The object that an edit sets: ("limit", zone), ("slow", zone), ("block", cell), ("inflow", inlet), ("watch", detector) or
 ("start", zone)."""
 
@@ -53,7 +55,7 @@ class Edit(NamedTuple):
     def read(cls, written: WrittenEdit) -> Edit:
         """Read an edit as the program writes it: [kind, index, step, count, number, value]."""
         kind, index, step, count, number, value = written
-        return cls((kind, index), step, Stamp(count, number), value)
+        return cls((cast(Kind, kind), index), step, Stamp(count, number), value)
 
     def to_line(self) -> WrittenEdit:
         """Return the edit as the program reads it. TypeError, ValueError: a field is wrong; the message names it."""
@@ -73,7 +75,7 @@ class Head(NamedTuple):
     def read(cls, written: WrittenHead) -> Head:
         """Read a head as the program writes it: [kind, index, step, count, number]."""
         kind, index, step, count, number = written
-        return cls((kind, index), step, Stamp(count, number))
+        return cls((cast(Kind, kind), index), step, Stamp(count, number))
 
 
 class Lost(NamedTuple):

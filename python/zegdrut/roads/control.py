@@ -18,13 +18,14 @@ from dataclasses import dataclass
 from typing import Callable, Iterable, Sequence
 
 from ..program.lab import RoadLab
+from ..program.records import Kind, Object
 from .demand import Admission, Rates, count_demand, find_rate
 from .units import HOUR, KMH
 
 PERIOD = 60
 """Steps from one decision to the next."""
 
-Setting = tuple[str, int, int]
+Setting = tuple[Kind, int, int]
 """A setting from the step of the decision on: kind, index and value, such as ("inflow", 1, 4_000)."""
 
 
@@ -68,7 +69,7 @@ class Controller:
 
 def run_control(lab: RoadLab, at: str, controllers: Sequence[Controller], first: int, last: int, period: int = PERIOD) -> None:
     """Let controllers decide in the steps `first` to `last`, and simulate the replica up to there. The steps may be in the past."""
-    owned: dict[tuple[str, int], int] = {}
+    owned: dict[Object, int] = {}
     scenario = lab.scenario(at)
     lab.advance(at, first)
     for step in range(first, last, period):
@@ -76,7 +77,7 @@ def run_control(lab: RoadLab, at: str, controllers: Sequence[Controller], first:
         view = View(lab, at, max(step - period, first), step)
         for controller in controllers:
             for kind, index, value in controller.decide(view):
-                thing = (kind, index)
+                thing: Object = (kind, index)
                 if thing not in owned:
                     for edit in scenario:
                         if tuple(edit.object) == thing and first < edit.step <= last and edit.value is not None:

@@ -15,7 +15,7 @@ from typing import Mapping, Sequence
 
 from ..figures.trips import INLETS, Trips, entry_inlet, entry_step
 from ..program.lab import RoadLab
-from ..program.records import Edit
+from ..program.records import Edit, Object
 from ..program.rows import FASTEST
 from ..program.scripts import Script
 from ..program.wire import Fields
@@ -61,7 +61,7 @@ class Queue:
 class Timeline:
     """The values of an object over time on the road without a queue, and the edits that change them for a queue."""
 
-    def __init__(self, lab: RoadLab, at: str, thing: tuple[str, int], edits: Sequence[Edit], default: int) -> None:
+    def __init__(self, lab: RoadLab, at: str, thing: Object, edits: Sequence[Edit], default: int) -> None:
         self.lab, self.at, self.thing = lab, at, thing
         self.values = sorted({0: default, **{edit.step: edit.value for edit in edits
                                              if tuple(edit.object) == thing and edit.value is not None}}.items())
@@ -78,7 +78,8 @@ def make_timelines(lab: RoadLab, at: str, inlet: int) -> list[tuple[Timeline, in
     plan, edits = lab.plan, lab.scenario(at)
     found = [(Timeline(lab, at, ("inflow", inlet), edits, plan["inlets"][inlet][1]), ALWAYS)]
     if inlet == MAIN and plan["zone"] <= LONGEST_ZONE:
-        slow, start = (Timeline(lab, at, (kind, 0), edits, plan["zones"][0][1]) for kind in ("slow", "start"))
+        objects: tuple[Object, Object] = ("slow", 0), ("start", 0)
+        slow, start = (Timeline(lab, at, thing, edits, plan["zones"][0][1]) for thing in objects)
         if not any(tuple(edit.object) == ("start", 0) for edit in edits):
             start.values = slow.values  # (standing cars are slowed as moving ones are)
         found += [(one, 0) for one in (slow, start) if any(value for _, value in one.values)]
