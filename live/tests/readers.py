@@ -7,13 +7,13 @@ from __future__ import annotations
 
 import asyncio
 import random
-from typing import Any, Callable, Sequence
+from typing import Any, Callable, Sequence, cast
 
 from crashes import numbers
 from oracle import counting_operations
 from server.tabs.client import RefusedReply, Seat
 from server.model.operations import Operation, Shape, Stamp, is_line
-from zegdrut import RoadLab
+from zegdrut import Kind, RoadLab
 from running import ALL, SMALL, Case, Server, until
 from server.journal.records import read_plan_line
 
@@ -165,7 +165,7 @@ class Reader:
                 value = top[1][5] if top else BASE[kind]
                 before = tops.get((kind, index, step - 1)) if step else None
                 if value != (before[1][5] if before else BASE[kind]):
-                    lab.edit("A", (kind, index), step, value)
+                    lab.edit("A", (cast(Kind, kind), index), step, value)
             lab.advance("A", LAST)
             case.assertEqual(await self.rows(self.seat.at), lab.diagram("A", 0, LAST), self.seat.at)
         lines = {tuple(one["name"]): one for one in await self.list()}

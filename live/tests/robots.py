@@ -3,12 +3,12 @@ broker. At the end every road equals, row by row, one that a program simulates f
 from __future__ import annotations
 
 import random
-from typing import Any
+from typing import Any, cast
 
 from server.tabs.client import RefusedReply, Seat
 from server.model.operations import Operation
 from server.model.reading import read_operation
-from zegdrut import RoadLab
+from zegdrut import Kind, RoadLab
 from oracle import oracle_of
 from running import ALL, SMALL, Case, Server, until
 from server.journal.records import read_plan_line
@@ -85,7 +85,7 @@ class Acts(Case):
         with RoadLab(read_plan_line({**PLAN, "replicas": ["A"]})) as lab:
             for (kind, index, step), value in values.items():
                 if step == 0 or values[kind, index, step - 1] != value:
-                    lab.edit("A", (kind, index), step, value)
+                    lab.edit("A", (cast(Kind, kind), index), step, value)
             lab.advance("A", LAST)
             rows = [*(await seat.ask("diagram", at=at, **{"from": 0, "to": LAST}))["rows"]]
             self.assertEqual(rows, lab.diagram("A", 0, LAST), at)
