@@ -144,10 +144,11 @@ def read_day(given: argparse.Namespace, figures: Figures) -> tuple[Figures, Meas
     if figures.begin is None:
         raise Fault(f'{given.road} has no begin: add the clock time at which the window begins, such as "begin": "06:30"')
     table = read_stations(given.stations) if given.stations else None
-    counts = read_counts(given.counts, table, read_pairs(given.column, "column", "speed=v_mean", list(HEADERS)),
-                         read_pairs(given.unit, "unit", "speed=mph", ["speed"]), list_dates(figures))
-    if not counts.rows:
-        raise Fault(f"{given.counts} has no row of {figures.date}: change the date")
+    columns, units = (read_pairs(given.column, "column", "speed=v_mean", list(HEADERS)),
+                      read_pairs(given.unit, "unit", "speed=mph", ["speed"]))
+    # Faults of other days are not told. If no row has the date, all rows are read, and `put_on_road` says what dates they have.
+    counts = read_counts(given.counts, table, columns, units, list_dates(figures))
+    counts = counts if counts.rows else read_counts(given.counts, table, columns, units)
     counts = correct_counts(counts, given.leave_out, read_factors(given.scale))
     figures = with_date_of(figures, counts)
     measured = put_on_road(counts, figures.clock, round(figures.minutes * 60), given.origin, given.reverse, not given.no_ramp_check)

@@ -16,7 +16,7 @@ from ..program.errors import Fault
 from ..roads.clock import Clock
 from ..roads.demand import Rates
 from ..roads.units import HOUR, count_things
-from .stations import MOST_LISTED, Counts, Row, Station, note_lines
+from .stations import LEAST_FACTOR, MOST_LISTED, Counts, Row, Station, note_lines
 
 SUSPICIOUS = 10
 """A zero between two intervals with at least this many cars per lane is a fault of the detector."""
@@ -304,8 +304,9 @@ def cut_at_exit(lines: list[Series], ramps: list[Series]) -> tuple[list[Series],
         return lines[:place + 1], (
             f"from station {one.station.name} (km {one.station.km:g}) to {following.station.name} (km {following.station.km:g}) "
             f"the flow per lane falls from {expected:.0f} to {after:.0f} cars, as at an off-ramp, which the model does not have. "
-            f"Only stations up to {one.station.name} are compared. If there is no off-ramp, {one.station.name} over-counts: then use "
-            f"{suggest_correction(one, expected, after)}. To compare all stations use --no-ramp-check"), doubts
+            f"Only stations up to {one.station.name} are compared."
+            + (f" If there is no off-ramp, {one.station.name} over-counts: then use {suggest_correction(one, expected, after)}."
+               if after >= LEAST_FACTOR * expected else "") + " To compare all stations use --no-ramp-check"), doubts
     return lines, "", doubts
 
 
