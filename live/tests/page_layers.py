@@ -293,7 +293,7 @@ class TwoTabs(BrowserCase):
                       .getBoundingClientRect().bottom;""")
                 self.assertLessEqual(bottom, height, (place, width))
                 who = ada.script("const {scrollWidth, clientWidth} = $('who'); return scrollWidth - clientWidth")
-                self.assertEqual((who, ada.text("who")), (0, "You are Ada (seat 1), with Ben"), width)
+                self.assertEqual((who, ada.text("who")), (0, "You are Ada (seat 1), with Ben Not you?"), width)
 
     def test_saved_figures_equal_those_shown(self) -> None:
         ada, _ = self.open(FREEWAY)
