@@ -10,7 +10,6 @@ import unittest.mock
 from zegdrut.program.bars import Bar
 from zegdrut.roads.clock import Clock
 from zegdrut.reports.pictures import Chart, Line, draw_field
-from zegdrut.reports.report_page import format_number
 from zegdrut.roads.units import format_fixed
 
 HOUR = 3_600
@@ -56,7 +55,7 @@ class Numbers(unittest.TestCase):
     def test_no_number_is_minus_zero(self) -> None:
         for value, digits, wanted in ((-0.04, 1, "0.0"), (-0.4, 0, "0"), (-0.06, 1, "-0.1"), (-1_234.56, 1, "-1234.6"), (0.0, 2, "0.00")):
             self.assertEqual(format_fixed(value, digits), wanted)
-            self.assertEqual(format_number(value, digits), wanted.replace("-1234", "-1,234"))
+            self.assertEqual(format_fixed(value, digits, ","), wanted.replace("-1234", "-1,234"))
 
 
 class Bars(unittest.TestCase):
