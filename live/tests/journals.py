@@ -43,8 +43,9 @@ def line_of(entry: dict[str, Any], sum_as: str | None = "crc") -> bytes:
 
 
 async def forked() -> None:
-    """Wait until the process runs that writes the new journal."""
-    while not list(running.descendants()):
+    """Wait until the process runs that writes the new journal: one more than before, since servers of other tests may still be ending."""
+    others = set(running.descendants())
+    while not set(running.descendants()) - others:
         await asyncio.sleep(0)
 
 
