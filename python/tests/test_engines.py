@@ -13,6 +13,7 @@ import unittest
 from concurrent.futures import Executor, ProcessPoolExecutor, ThreadPoolExecutor
 from pathlib import Path
 from typing import Any
+from unittest import mock
 
 from test_page import TOP, find_python
 from zegdrut import Fault, Plan, RoadLab
@@ -104,9 +105,9 @@ class Executors(unittest.TestCase):
             self.assertEqual(len(sweep(die, {"x": [1, 2, 4]}, executor=executor, out=self.out).rows), 3)
 
     def test_what_cannot_be_sent(self) -> None:
-        if find_python("cloudpickle") == sys.executable:
-            self.skipTest("cloudpickle sends a lambda")
-        with ProcessPoolExecutor(1) as executor, self.assertRaisesRegex(Fault, "the model cannot be sent to workers .*cloudpickle"):
+        """Without cloudpickle, which sends a lambda, the sweep says what to do."""
+        with mock.patch.dict(sys.modules, {"cloudpickle": None}), ProcessPoolExecutor(1) as executor, \
+                self.assertRaisesRegex(Fault, "the model cannot be sent to workers .*cloudpickle"):
             sweep(lambda x, seed: {"y": x}, {"x": [1]}, executor=executor)
 
 
@@ -203,8 +204,8 @@ class Mpi(Folder):
     def test_mpi(self) -> None:
         """Run by `mpi4py.futures` on two workers. Only `python/test --all` does this."""
         python = find_python("mpi4py")
-        if python is None or shutil.which("mpiexec") is None or "ALL_TESTS" not in os.environ:
-            self.skipTest("mpi4py not installed, or without --all")
+        if python is None or shutil.which("mpiexec") is None:
+            self.skipTest("mpi4py not installed")
         (self.folder / "by_mpi.py").write_text(
             "from mpi4py.futures import MPIPoolExecutor\nfrom zegdrut.sweeps import sweep\nimport model\n"
             "if __name__ == '__main__':\n    points = {'inflow': [10_000, 60_000]}\n    with MPIPoolExecutor() as executor:\n"
@@ -214,6 +215,10 @@ class Mpi(Folder):
                              cwd=self.folder, capture_output=True, text=True, check=False, timeout=PATIENCE,
                              env={**os.environ, "PYTHONPATH": str(TOP), "ROAD_LAB": str(find_program().resolve())})
         self.assertEqual((ran.returncode, ran.stdout), (0, "6 True\n"), ran.stderr)
+
+
+if "ALL_TESTS" not in os.environ:
+    del Mpi
 
 
 if __name__ == "__main__":
