@@ -53,7 +53,7 @@ function greet() {
   else rejoin();
 }
 
-/** Join in the latest seat of this browser that is not open in any tab; if there is none, ask for a
+/** Join in the latest seat of this browser that is not open in any tab; without one, ask for a
  * name. */
 async function rejoin() {
   const seats = await askSeats();

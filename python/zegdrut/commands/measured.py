@@ -126,7 +126,7 @@ def read_data(given: argparse.Namespace) -> tuple[Figures, Measured]:
 
 
 def read_days(given: argparse.Namespace, dates: Sequence[str]) -> list[tuple[Figures, Measured]]:
-    """Read the road and its counts on each of some dates, or on the date of the road if there are none. Fault: one of them is invalid."""
+    """Read the road and its counts on each of these dates, or on the date of the road without dates. Fault: one of them is invalid."""
     figures = FIGURES.override(given.road)
     return [read_day(given, dataclasses.replace(figures, date=date)) for date in dates] or [read_day(given, figures)]
 

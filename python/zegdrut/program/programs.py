@@ -266,7 +266,7 @@ def note_path(path: Path) -> None:
 
 
 def read_noted_path() -> Path | None:
-    """Return the path in the user's data folder, or None if there is none or its program has gone."""
+    """Return the path in the user's data folder, or None if nothing is noted there or its program has gone."""
     try:
         path = Path(noted_path().read_text(encoding="utf-8").strip())
     except (OSError, RuntimeError):

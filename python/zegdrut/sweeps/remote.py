@@ -71,7 +71,7 @@ def boot(python: str, text: str, package: bytes | None, program: bytes | None, o
 
 
 def run_batch(worker: str, program: bytes | None, pickle_order: bytes, batch: bytes) -> Reply:
-    """Run a batch of runs. NEEDS: a run needs the program, and there is none, or another one."""
+    """Run a batch of runs. NEEDS: a run needs the program, which is missing or a different one."""
     order: Order = pickle.loads(pickle_order)
     listed: Sequence[Run] = pickle.loads(batch)
     path = None if program is None else keep_program(program)

@@ -72,7 +72,7 @@ def make_grid(parameters: Mapping[str, Iterable[object]]) -> list[dict[str, obje
 
 
 def list_points(points: Points) -> list[Row]:
-    """Return the points of a grid or a list, with values of Python's own types. Fault: there are none, or their parameters differ."""
+    """Return the points of a grid or a list, with values of Python's own types. Fault: the list is empty, or the parameters differ."""
     listed = make_grid(points) if isinstance(points, Mapping) else [dict(point) for point in points]
     if not listed:
         raise Fault("there are no points: give at least one value of each parameter")

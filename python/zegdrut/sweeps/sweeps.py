@@ -140,7 +140,7 @@ def sweep(model: Model, points: Points, seeds: Iterable[int] = (1,), *, measure:
     `concurrent.futures`; then `timeout` holds for the calls of labs. ship: send this package and the program to its workers. named: the model and the measurement as a command names them.
 
     Fault: there are no points or seeds, or a file has different columns. OtherMark: a file has results of another model, measurement or
-    program. Unknown: `version` is needed for a file. Nothing has been written then. NoProgram: a run needs a program, and there is none.
+    program. Unknown: `version` is needed for a file. Nothing has been written then. NoProgram: a run needs a program, which is missing.
     NoWorker: a worker of the executor cannot run the sweep.
     """
     listed = runs(points, seeds)
