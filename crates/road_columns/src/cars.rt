@@ -51,7 +51,7 @@ impl CarColumns {
     ///
     /// # Errors
     ///
-    /// `OutOfMemory` if an allocation fails. Nothing changes then.
+    /// `OutOfMemory` if an allocation fails. The cars keep their places then.
     pub fn lengthen(&mut self, alloc: Global, long: usize) -> Result<(), OutOfMemory>
         requires { long ≤ 65000 }
         ensures longer { AreLonger self.old self.new }

@@ -38,8 +38,8 @@ impl Counts {
         Ok(Counts { passes, totals })
     }
 
-    /// End a step. After the last step of an interval, add the counts of the interval to the totals. Return whether the
-    /// interval continues.
+    /// End a step. After the last step of an interval, add the counts of the interval to the totals. Return true only if
+    /// the interval continues.
     pub fn end_step(&mut self, step: u32) -> bool
         requires step { step < 2 ^ 27 }
         requires as_many { length self.old.totals.items ≡ length self.old.passes.items }

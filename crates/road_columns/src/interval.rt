@@ -40,7 +40,7 @@ pub struct IntervalWords {
 impl IntervalWords {
     ghost use Rattle.road_columns.specs.Private.Interval.{CanKeep, KeepsCar, MakesRows, entered_of_words};
 
-    /// Return whether the words that a step needs are drawn. `slowing` says whether cars are slowed.
+    /// Return true only if the words that a step needs are drawn. `slowing` says whether cars are slowed.
     pub fn are_drawn(&self, slowing: bool) -> bool
         ensures drawn { IsTrue result → IsTrue self.now.drawn }
         ensures worded { IsTrue result → IsTrue slowing → IsTrue self.now.worded }
@@ -53,7 +53,7 @@ impl IntervalWords {
     ///
     /// # Errors
     ///
-    /// `OutOfMemory` if an allocation fails. Nothing changes then.
+    /// `OutOfMemory` if an allocation fails. The source, the inlets and `drawn` do not change then.
     pub fn make_rows(
         &mut self,
         alloc: Global,

@@ -24,7 +24,7 @@ pub struct Region {
     pub block: u16,
 }
 
-/// Return whether cars are slowed in some of these regions.
+/// Return false only if no car is slowed in these regions.
 pub fn are_slowing(regions: &[Region]) -> bool
     ensures { IsFalse result → AreFree regions.now }
 {

@@ -217,13 +217,13 @@ impl UnderWay {
     }
 
     /// Make one step: entries, motion, counting, exit. `ahead` is how many steps the caller will make from here on,
-    /// this one included. Room for the cars that may enter in these steps is made in advance.
+    /// this one included. Room for the cars that may enter in at most 64 of them is made in advance.
     ///
     /// # Errors
     ///
-    /// `OutOfMemory` if an allocation fails, and for no other reason. Nothing changes then, so the step can be retried
-    /// later. A step allocates only if there is no room for the cars that may enter: those of `ahead` steps (at most
-    /// 64) if it draws the words of an interval, else those of this step.
+    /// `OutOfMemory` if an allocation fails. Nothing changes then, so the step can be retried later. A step allocates
+    /// only if there is no room for the cars that may enter: those of `ahead` steps (at most 64) if it draws the words
+    /// of an interval, else those of this step.
     pub fn step(&mut self, alloc: Global, ahead: u32) -> Result<(), OutOfMemory>
         requires { self.old.step < GREATEST_HORIZON }
         ensures run_after_step { OnOk result (self.new ≡ run_after_step self.old) }

@@ -100,9 +100,9 @@ impl<S: BuildHasher + Copy> Laboratory<S> {
         })
     }
 
-    /// Answer a command. If the command writes, the crew recomputes every simulated step that the write touches, before
-    /// the call returns. A crowd must have 1 to 8 shares, with at most 1,000,000 writes together. If it is not refused,
-    /// it is passed to `crowds`. A refused command changes nothing, and neither does a crowd.
+    /// Answer a command. After a write every simulated step shows it. A crowd must have 1 to 8 shares, with at most
+    /// 1,000,000 writes together. If it is not refused, it is passed to `crowds`. A refused command changes nothing,
+    /// and neither does a crowd.
     ///
     /// # Errors
     ///

@@ -405,7 +405,7 @@ impl Replica {
     ///
     /// # Errors
     ///
-    /// `OutOfMemory` if an allocation failed. Without edits nothing is allocated.
+    /// `OutOfMemory` if an allocation failed. Without edits it does not fail.
     pub fn message(&self) -> Result<Scenario, ReplicaFault>
         ensures message { IfOk result (λ message. message ≡ self.now.sheet.edits) }
         ensures grows_nothing { self.now.sheet.edits ≡ empty → IsOk result }
@@ -418,7 +418,7 @@ impl Replica {
     ///
     /// # Errors
     ///
-    /// `OutOfMemory` if an allocation failed. Without edits nothing is allocated.
+    /// `OutOfMemory` if an allocation failed. Without edits it does not fail.
     pub fn heads(&self, alloc: Global) -> Result<Heads, ReplicaFault>
         ensures heads { IfOk result (λ heads. heads ≡ deltas.heads self.now.sheet.edits) }
         ensures grows_nothing { self.now.sheet.edits ≡ empty → IsOk result }
@@ -431,7 +431,7 @@ impl Replica {
     ///
     /// # Errors
     ///
-    /// `OutOfMemory` if an allocation failed. Without edits nothing is allocated.
+    /// `OutOfMemory` if an allocation failed. Without edits it does not fail.
     pub fn beyond(&self, alloc: Global, heads: &Heads) -> Result<Scenario, ReplicaFault>
         ensures delta { IfOk result (λ delta. delta ≡ deltas.beyond self.now.sheet.edits heads.now) }
         ensures grows_nothing { self.now.sheet.edits ≡ empty → IsOk result }

@@ -171,7 +171,7 @@ fn line_end(bytes: &[u8]) -> Option<usize>
 }
 
 /// A dialogue answers each line that has ended, and holds the bytes of the next line, at most as many as a line may
-/// have. At most 64 KiB of replies wait to be written.
+/// have. No reply waits to be written after a call that succeeds.
 #[derive(Drop)]
 pub struct Dialogue<S: BuildHasher> {
     // The allocator of the replies.
@@ -366,7 +366,7 @@ impl<S: BuildHasher + Copy> Dialogue<S> {
     ///
     /// # Errors
     ///
-    /// `Write` if the sink failed, `WorkersGone` if the crew returned it or a thread of a crowd could not be started,
+    /// `Write` if the sink failed, `WorkersGone` if the crew or a crowd returned it,
     /// `OutOfMemory` if an allocation failed. A prefix of the replies has then been written. The line that the dialogue
     /// held may have been answered or not, so the dialogue must not be called again.
     pub fn take<W: Sink, C: Crew, K: Crowds>(

@@ -12,11 +12,11 @@ use crate::streams::{Sink, Source};
 /// Which calls fail. Calls are counted from 0.
 #[derive(Clone, Copy, Debug)]
 pub enum Failing {
-    /// No call fails.
+    /// No call is made to fail.
     Never,
-    /// Only the call with this number fails.
+    /// Only the call with this number is made to fail.
     Once(u64),
-    /// The call with this number and all later calls fail.
+    /// The call with this number and all later calls are made to fail.
     From(u64),
 }
 

@@ -61,9 +61,8 @@ impl Ended {
 }
 
 /// Run the program with these arguments. It reads the script that they name, or the reader if they name none. It uses
-/// the workers that they request, or only this thread if they request none. A script is opened before workers are
-/// started. The sessions of a crowd run on their own threads. Names are found by hashes with keys from the system's
-/// random bytes. If the system has no entropy, the program ends as after a failed read, before it reads a line.
+/// the workers that they request, or only this thread if they request none. Names are found by hashes with keys from
+/// the system's random bytes. A run without a script may end as after a failed read, before it reads a line.
 pub fn run<
     F: Files + Threads + Wait + RandomSource + AllocGlobal + Clone + Drop + Send + 'static,
     R: Source,

@@ -34,16 +34,16 @@ struct Limits {
 }
 
 /// Read an input to its end, and write the reply to each of its lines. At most 1,000,000 lines after the plan line are
-/// read, and at most 2^32 bytes. The crew runs the road for everything that changes a replica, and `crowds` gathers
-/// crowds. The hasher hashes names to find them, and no reply depends on it. If no crowd is read, only calls of the
-/// source, the sink and the crew may block.
+/// answered, and those of at most 2^32 bytes. The crew runs the road for everything that changes a replica, and
+/// `crowds` gathers crowds. The hasher hashes names to find them, and no reply depends on it. If no crowd is read, only
+/// calls of the source, the sink and the crew may block.
 ///
 /// # Errors
 ///
 /// - `BadPlan`: the plan line is refused. `TooMany`: it is not refused, and there is a byte past the limits. In both
 ///   cases all replies have been written.
 /// - `Read`: the source failed. The replies to all lines that were read completely have been written.
-/// - `Write`: the sink failed. `WorkersGone`: the crew returned it, or a thread of a crowd could not be started.
+/// - `Write`: the sink failed. `WorkersGone`: the crew or a crowd returned it.
 ///   `OutOfMemory`: an allocation failed. In these cases a prefix of the replies has been written.
 pub fn serve<R: Source, W: Sink, C: Crew, K: Crowds, S: BuildHasher + Copy>(
     alloc: Global,

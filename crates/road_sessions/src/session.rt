@@ -262,7 +262,7 @@ impl<J: Naming> Session<J> {
     // ---- looks, without a lock
 
     /// Return the published sheet. Its history extends all that the session has seen or heard of, and contains the
-    /// session's own writes. A look never waits, and does not allocate.
+    /// session's own writes. A look never waits.
     ///
     /// # Errors
     ///

@@ -93,7 +93,7 @@ impl QueryCache {
     }
 
     /// Return what a detector counts in the steps from `from` to before `to`. The counts of whole intervals are stored,
-    /// so reading them does not allocate.
+    /// so reading them does not fail.
     ///
     /// # Errors
     ///

@@ -129,8 +129,7 @@ impl Sheet {
         }
     }
 
-    /// Return the road at a step. It computes at most 63 steps, from the nearest earlier checkpoint, and none if the
-    /// sheet has stored the road.
+    /// Return the road at a step, from the nearest earlier checkpoint.
     ///
     /// # Errors
     ///
@@ -149,8 +148,8 @@ impl Sheet {
         QueryCache::new().state(alloc, self, step)
     }
 
-    /// Return what a detector counts in the steps from `from` to before `to`. It computes steps only in the intervals
-    /// of `from` and `to`. The counts of whole intervals are stored, so reading them does not allocate.
+    /// Return what a detector counts in the steps from `from` to before `to`. The counts of whole intervals are stored,
+    /// so reading them does not fail.
     ///
     /// # Errors
     ///

@@ -71,9 +71,8 @@ impl SpanDraft {
         *horizon
     }
 
-    /// Find the steps that come next under the same settings, at least one: up to the step `to`, the end of the
-    /// interval of 64 steps, or the first step at which an edit is dated, whichever is the earliest. `to` must be above
-    /// the horizon, and at most 1,048,576.
+    /// Find the steps that come next under the same settings: at least one, and none past the step `to` or the end of
+    /// the interval of 64 steps. `to` must be above the horizon, and at most 1,048,576.
     ///
     /// # Errors
     ///

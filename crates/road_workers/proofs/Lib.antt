@@ -10,3 +10,4 @@ pub mod WholeRuns
 pub mod NearRuns
 pub mod NearCars
 pub mod StepByStep
+pub mod Sends

@@ -49,9 +49,9 @@ struct Worker {
 
 /// The crew whose workers are threads that live as long as the crew. A call for the speeds of a step gives every worker
 /// its piece of the cars, which may be empty. A call for a run gives every worker a stretch of the road if that is
-/// faster; otherwise the caller runs the span alone. Each call waits for the answers. After the first answer
-/// `WorkersGone` every call answers `WorkersGone`. Contracts see a pool as its number of workers and its count of these
-/// answers.
+/// faster; otherwise the caller runs the span alone. A call waits for the answers until a worker has gone. After the
+/// first answer `WorkersGone` every call answers `WorkersGone`. Contracts see a pool as its number of workers and its
+/// count of these answers.
 #[derive(Drop)]
 pub struct Pool<R> {
     rt: R,
@@ -161,7 +161,7 @@ impl<R: Threads + Wait + Clone + Drop + Send + 'static> Pool<R> {
         })
     }
 
-    /// Stop the workers and wait until their threads have ended.
+    /// Stop the workers, and return when their threads have ended (which no clause says).
     pub fn finish(self) {
         let Pool {
             rt,
@@ -186,11 +186,13 @@ impl<R: Wait> Crew for Pool<R> {
         let answer = if self.gone > 0 {
             Err(CrewFault::WorkersGone)
         } else {
+            let rt = &self.rt;
             speeds_by(
-                &self.rt,
+                rt,
                 alloc,
                 input,
                 self.workers.as_slice(),
+                &|channel: &Sender<Job>, job: Job| channel.send(rt, job),
                 &mut self.inbox,
             )
         };

@@ -74,7 +74,7 @@ impl World {
     ///
     /// # Errors
     ///
-    /// `OutOfMemory` if an allocation failed. A world without replicas needs no allocation.
+    /// `OutOfMemory` if an allocation failed. Without replicas it does not fail.
     pub fn open(alloc: Global, plan: Arc<Plan>, replicas: u32) -> Result<World, OutOfMemory>
         requires { replicas ≤ MOST_REPLICAS }
         ensures world { IfOk result (λ world. world ≡ opening_world (arc_value plan) replicas) }

@@ -1,7 +1,8 @@
 //! A span, run by the workers of a pool: each runs a stretch of the road. The caller runs one more if there is a
 //! processor for it.
 
-ghost use Rattle.std.specs.Prelude.{◌≡◌, ◌+◌, ◌<◌, ◌≤◌, length, vec_len, true, IfErr, IfOk, IfSome, IsSome, OnOk};
+ghost use Rattle.std.specs.Prelude.{◌≡◌, ℕ, ◌+◌, ◌<◌, ◌≤◌, length, vec_len, true, Err, IfErr, IfOk, IfSome, IsSome};
+ghost use Rattle.std.specs.Prelude.{OnOk};
 ghost use Rattle.road_plan.specs.declared.limits.TheConstants.{GREATEST_LENGTH, MOST_WORKERS};
 ghost use Rattle.road_cells.specs.Cars.{cars_of};
 ghost use Rattle.road_ends.specs.Span.{span_road};
@@ -10,6 +11,7 @@ ghost use Rattle.road_columns.specs.RoadOrRun.{road_now};
 ghost use Rattle.road_columns.specs.UnderWay.{IsRunnable};
 ghost use Rattle.road_workers.specs.Crews.{CanBeRun};
 ghost use Rattle.road_workers.specs.Private.Gathered.{AreRun, AreThere};
+ghost use Rattle.road_workers.specs.Private.Jobs.{HasGone, TookStretch};
 ghost use Rattle.road_workers.specs.Private.Lost.{TellsLost};
 ghost use Rattle.road_workers.specs.Private.Stretches.{IsJoined, cut};
 ghost use Rattle.road_workers.specs.declared.faults.CrewFault.TheVariants as Fault;
@@ -25,6 +27,7 @@ use crate::pool::{Pool, Worker};
 use crate::stretch::joining::{Joined, join_first, join_none, whole_run};
 use crate::stretch::{road_near, run_stretch, stretch_at};
 use crate::whole::run_alone;
+use crossbeam_channel::{SendError, Sender};
 use road_columns::{RoadOrRun, SpanOutcome, is_runnable};
 use road_ends::{OutOfMemory, Span, Stretch};
 use std::alloc::Global;
@@ -67,11 +70,13 @@ impl<R: Wait> Pool<R> {
             road: &road,
             own,
         };
+        let rt = &self.rt;
         let joined = run_side_by_side(
-            &self.rt,
+            rt,
             alloc,
             shares,
             self.workers.as_slice(),
+            &|channel: &Sender<Job>, job: Job| channel.send(rt, job),
             &mut self.inbox,
             &mut self.kept,
         )?;
@@ -80,29 +85,33 @@ impl<R: Wait> Pool<R> {
 }
 
 // Run a span by the stretches of all workers, and the caller's own. If there are several faults, return the first of
-// these: a lost worker, why a job was not sent, the caller's own lack of memory.
+// these: a lost worker, why a job was not sent, the caller's own lack of memory. Jobs are sent by `send`.
 #[tactic(auto, using(crate::proofs::OneMore::missing_right))]
-fn run_side_by_side<R: Wait>(
+fn run_side_by_side<R: Wait, F: Fn(&Sender<Job>, Job) -> Result<(), SendError<Job>>>(
     rt: &R,
     alloc: Global,
     shares: Shares,
     workers: &[Worker],
+    send: &F,
     inbox: &mut Inbox,
     kept: &mut KeptRun,
 ) -> Result<Joined, CrewFault>
+    requires may_send { F.IsAlwaysCallable send.now }
     requires some { 0 < length workers.now }
     requires few { length workers.now ≤ MOST_WORKERS }
     requires own { shares.own ≤ 1 }
     requires runnable { IsRunnable 0 shares.span.now.plan.cells shares.span.now.plan shares.road.now }
     ensures joined { IfOk result
         (IsJoined shares.entry.span.now.plan.cells shares.entry.span.now shares.entry.road.now) }
+    ensures sent { OnOk result ((w : ℕ) → w < length workers.now → TookStretch (F.post send.now) workers.now
+        shares.entry.span.now shares.entry.road.now shares.entry.own w) }
     ensures lost { TellsLost result inbox.new.lost }
 {
     inbox.lost = false;
     let count = workers.len() as u32;
     let mut places = places_for(alloc, count)?;
     let (jobs, sent) = send_each(count, |worker| {
-        send_stretch(rt, alloc, shares, workers, worker)
+        send_stretch(alloc, shares, workers, worker, send)
     });
     inbox.lost = is_lost(sent);
     let front = run_own_stretch(alloc, shares, count, kept);
@@ -112,25 +121,29 @@ fn run_side_by_side<R: Wait>(
     Ok(put_side_by_side(shares, front, places)?)
 }
 
-// Send a worker its stretch.
-fn send_stretch<R: Wait>(
-    rt: &R,
+// Send a worker its stretch. The result is `Ok` only if the worker took it, and `WorkersGone` only if the worker has
+// gone.
+fn send_stretch<F: Fn(&Sender<Job>, Job) -> Result<(), SendError<Job>>>(
     alloc: Global,
     shares: Shares,
     workers: &[Worker],
     worker: u32,
+    send: &F,
 ) -> Result<(), CrewFault>
+    requires may_send { F.IsAlwaysCallable send.now }
     requires own { shares.own ≤ 1 }
     requires few { length workers.now ≤ MOST_WORKERS }
     requires runnable { IsRunnable 0 shares.span.now.plan.cells shares.span.now.plan shares.road.now }
     requires there { worker < length workers.now }
+    ensures took { OnOk result (TookStretch (F.post send.now) workers.now shares.entry.span.now shares.entry.road.now
+        shares.entry.own worker) }
+    ensures gone { result ≡ Err Fault.WorkersGone → HasGone (F.post send.now) workers.now worker }
 {
     let Shares { span, road, .. } = shares;
     let stretch = shares.stretch_of(workers.len() as u32, worker);
     let near = road_near(alloc, span, road, stretch)?;
     let job = StretchJob::new(span.copied()?, near, stretch);
-    let jobs = &workers[worker as usize].jobs;
-    result_of_send(jobs.send(rt, Job::Stretch(job)))
+    result_of_send(send(&workers[worker as usize].jobs, Job::Stretch(job)))
 }
 
 // Run the caller's stretch, which comes before those of the workers, in a run that is kept. If the caller has no
