@@ -39,6 +39,75 @@ def road(inflow, seed):
 HELPERS = "PARTS = 2\ndef halve(x):\n    return x / PARTS\n"
 WORDS = ["model.py:road", "--grid", "inflow=10000,20000,30000,60000", "--seeds", "1-15"]
 
+DAYS = '''
+import sys
+from concurrent.futures import ProcessPoolExecutor
+from pathlib import Path
+from zegdrut.calibration import Bounds, Search, calibrate
+from zegdrut.commands.calibrate import read_arguments
+from zegdrut.commands.freeway import FIGURES
+from zegdrut.commands.measured import read_days
+from zegdrut.commands.metering import make_site, read_control, run_days
+from zegdrut.days import run_over_days
+from zegdrut.figures.trips import Window
+from zegdrut.report import Side, run_sides
+from zegdrut.scripts import read_script
+
+STEPS = 1_200
+Path("road.json").write_text('{"length": 1.5, "limit": 135, "slowing": 0.1, "begin": "06:30", "minutes": 20, "main": 900, "ramps": [[0.7, 100]],'
+                             ' "sections": [], "stalled": [], "detectors": [1], "stretch": [0.5, 1], "seed": 1}')
+Path("control.json").write_text('{"ramp": 0.7, "detector": 1.1, "setpoint": 9}')
+Path("main.json").write_text(Path("road.json").read_text().replace("[[0.7, 100]]", "[]"))
+Path("counts.csv").write_text("time,station,km,type,lanes,count,speed km/h\\n" + "".join(
+    f"2026-03-02 06:{minute},{name},{km},ML,1,{cars},{speed}\\n" for minute, cars in ((30, 75), (35, 80), (40, 70), (45, 75))
+    for name, km, speed in (("1", 0.05, 100), ("2", 0.6, 128), ("3", 1.2, 127))))
+script = ('{"length":200,"exit":1,"zone":200,"zones":[[5,9000]],"inlets":[[0,20000]],"detectors":[90],"words":7,"replicas":["A"]}\\n%s'
+          '{"advance":{"at":"A","to":1200}}\\n')
+Path("before.jsonl").write_text(script % "")
+Path("after.jsonl").write_text(script % '{"edit":{"at":"A","object":["limit",0],"step":300,"value":2}}\\n')
+figures = FIGURES.override(Path("road.json"))
+site = make_site("road", figures, read_control(Path("control.json"), figures))
+measured = read_days(read_arguments(["main.json", "counts.csv", "--unit", "speed=km/h"]), [])
+before, after = read_script("before.jsonl"), read_script("after.jsonl")
+sides = [Side("before", before, [[(0, 1_000.0)]]), Side("after", after, [[(0, 1_000.0)]])]
+
+
+class Counted:
+    """An executor that counts what each call sends."""
+
+    def __init__(self, executor):
+        self.executor, self.sent = executor, []
+
+    def submit(self, *given):
+        self.sent[-1] += 1
+        return self.executor.submit(*given)
+
+    def begin(self):
+        self.sent.append(0)
+        return self if self.executor else None
+
+
+def tell_all(executor, ship=False):
+    counted = Counted(executor)
+    days = run_over_days(before, after, 3, executor=counted.begin(), ship=ship)
+    metered = run_days(site, [1, 2], executor=counted.begin(), ship=ship)
+    reported = run_sides(sides, [5, 6], Window(100, STEPS), executor=counted.begin(), ship=ship)
+    search = Search(first_points=4, first_days=1, points=4, days=1, rounds=2, elite=4)
+    found = calibrate("road", measured, Bounds(limit=(135, 135)), search, executor=counted.begin(), ship=ship)
+    print(*map(min, counted.sent, (3, 2, 4, 8)))
+    return repr((days.seeds, days.values, [[(one.rates, one.run.counts, one.run.trips.left) for one in day] for day in metered],
+                 [[(one.counts, one.rows, one.trips.left) for one in day] for day in reported], found.best, found.spread, sorted(found.tried)))
+
+
+if __name__ == "__main__":
+    own = tell_all(None)
+    with ProcessPoolExecutor(2) as executor:
+        print(len(own) > 10_000, own == tell_all(executor))
+    from distributed import Client
+    with Client(sys.argv[1]) as client:
+        print(own == tell_all(client.get_executor(pure=False), True))
+'''
+
 
 def model(x: int, seed: int) -> dict[str, Any]:
     if x == 3:
@@ -119,7 +188,8 @@ class Folder(unittest.TestCase):
 
     def run_sweep(self, out: str, *words: str, python: str = sys.executable, wait: bool = True) -> subprocess.Popen[str]:
         process = subprocess.Popen([python, "-m", "zegdrut", "sweep", *WORDS, "--out", out, *words], cwd=self.folder, text=True,
-                                   env={**os.environ, "PYTHONPATH": str(TOP), "ROAD_LAB": str(find_program().resolve())}, stderr=subprocess.PIPE)
+                                   env={**os.environ, "PYTHONPATH": str(TOP), "ROAD_LAB": str(find_program().resolve()),
+                                        "DASK_DISTRIBUTED__COMM__TIMEOUTS__CONNECT": f"{PATIENCE:.0f}s"}, stderr=subprocess.PIPE)
         if wait:
             process.said = process.communicate(timeout=PATIENCE)[1]  # type: ignore[attr-defined]
         return process
@@ -152,7 +222,10 @@ class Dask(Folder):
         with socket.socket() as free:
             free.bind(("127.0.0.1", 0))
             self.address = f"tcp://127.0.0.1:{free.getsockname()[1]}"
-        self.start("scheduler", "dask_scheduler", "--host", "127.0.0.1", "--port", self.address.rpartition(":")[2])
+        self.start_scheduler("scheduler")
+
+    def start_scheduler(self, name: str) -> None:
+        self.start(name, "dask_scheduler", "--host", "127.0.0.1", "--port", self.address.rpartition(":")[2])
 
     def start(self, name: str, module: str, *words: str) -> subprocess.Popen[bytes]:
         """Start a part of Dask in a folder and a home of its own, without variables of this process."""
@@ -173,6 +246,13 @@ class Dask(Folder):
                 os.killpg(process.pid, signal.SIGKILL)
             process.wait()
 
+    def until_rows(self, name: str, count: int) -> int:
+        """Wait until a table has some rows. Return their number."""
+        path, until = self.folder / name, time.monotonic() + PATIENCE
+        while (not path.exists() or len(read_rows(path)) < count) and time.monotonic() < until:
+            time.sleep(0.02)
+        return len(read_rows(path))
+
     def test_workers_without_the_repository(self) -> None:
         self.run_sweep("own.csv", python=self.python)
         workers = [self.start_worker(name) for name in ("one", "two")]
@@ -180,14 +260,34 @@ class Dask(Folder):
         self.assertRegex(ran.said, r"the worker .*, process \d+ cannot run this sweep: it has no package zegdrut: install it there, or send it")  # type: ignore[attr-defined]
         self.assertEqual((ran.returncode, read_rows(self.folder / "none.csv")), (2, []))
         running = self.run_sweep("dask.csv", "--dask", self.address, "--ship", python=self.python, wait=False)
-        until = time.monotonic() + PATIENCE
-        while (not (self.folder / "dask.csv").exists() or len(read_rows(self.folder / "dask.csv")) < 4) and time.monotonic() < until:
-            time.sleep(0.02)
-        before = len(read_rows(self.folder / "dask.csv"))
+        before = self.until_rows("dask.csv", 4)
         os.killpg(workers[0].pid, signal.SIGKILL)
-        self.assertEqual((running.wait(PATIENCE), running.communicate()[1].splitlines()[-1]), (0, "60 runs are in dask.csv"))
+        self.assertEqual((running.wait(2 * PATIENCE), running.communicate()[1].splitlines()[-1]), (0, "60 runs are in dask.csv"))
         self.assertLess(before, 60)
         self.assertEqual((self.folder / "dask.csv").read_bytes(), (self.folder / "own.csv").read_bytes())
+
+    def test_a_scheduler_that_is_started_again(self) -> None:
+        """Kill the scheduler, whose workers then end, and start it again with another worker: each run is in the table once."""
+        self.run_sweep("own.csv", python=self.python)
+        self.start_worker("one")
+        running = self.run_sweep("dask.csv", "--dask", self.address, "--ship", python=self.python, wait=False)
+        before = self.until_rows("dask.csv", 4)
+        os.killpg(self.processes[0].pid, signal.SIGKILL)
+        self.processes[0].wait()
+        self.start_scheduler("scheduler again")
+        self.start_worker("two")
+        self.assertEqual((running.wait(2 * PATIENCE), running.communicate()[1].splitlines()[-1]), (0, "60 runs are in dask.csv"))
+        self.assertLess(before, 60)
+        self.assertEqual((self.folder / "dask.csv").read_bytes(), (self.folder / "own.csv").read_bytes())
+
+    def test_days(self) -> None:
+        """Calibrate, meter, and run the days of a report and of a comparison, by processes and by a worker without the repository: all
+        figures are those of the own processes."""
+        self.start_worker("one")
+        (self.folder / "days.py").write_text(DAYS, encoding="utf-8")
+        ran = subprocess.run([self.python, "days.py", self.address], cwd=self.folder, capture_output=True, text=True, check=False, timeout=4 * PATIENCE,
+                             env={**os.environ, "PYTHONPATH": str(TOP), "ROAD_LAB": str(find_program().resolve())})
+        self.assertEqual((ran.returncode, ran.stdout), (0, "0 0 0 0\n3 2 4 8\nTrue True\n3 2 4 8\nTrue\n"), ran.stderr)
 
     def test_a_worker_with_another_program(self) -> None:
         """A worker that has this package, but another program, is refused by name."""

@@ -9,6 +9,7 @@ from typing import Callable
 
 from zegdrut import Car, Fault, Plan, RoadLab
 from zegdrut.figures import (Figure, Mean, Of, RoadRun, Value, choose, compare, list_figures, measure_day, read_run, simulate_days)
+from zegdrut.figures.queues import with_lost
 from zegdrut.figures.trips import Window
 
 DETECTORS = [20, 60, 90]
@@ -102,19 +103,23 @@ OF_ROAD: dict[str, Callable[[Watched, Of], float | None]] = {
     "wait end": lambda run, of: next(((step - run.first + 1) / 60 for step in range(LAST - 1, run.first - 1, -1) if run.waiting[of.inlet or 0][step]), None),
     "all hours": lambda run, of: run.hours() + sum(sum(cars[run.first:]) for cars in run.waiting) / 3_600,
     "waiting": lambda run, of: sum(run.queues(of.inlet or 0)) / 3_600,
-    "together": lambda run, of: run.hours() + sum(run.queues(of.inlet or 0)) / 3_600,
+    "together": lambda run, of: run.hours() + (sum(run.queues(of.inlet or 0)) + sum(
+        sum(cars[run.first:]) for inlet, cars in enumerate(run.waiting) if inlet != of.inlet)) / 3_600,
     "queue": lambda run, of: max(run.queues(of.inlet or 0)),
     "left": lambda run, of: sum(place is None and step >= run.first for (place, _), step in run.arrivals.items()),
     "entered": lambda run, of: len(run.numbers),
     "demand": lambda run, of: total(run.demand, run.first),
+    "demand at": lambda run, of: run.demand(of.inlet or 0, run.first, LAST),
     "admitted": lambda run, of: total(run.admitted, run.first),
+    "admitted at": lambda run, of: run.admitted(of.inlet or 0, run.first, LAST),
     "lost": lambda run, of: total(run.demand, run.first) - total(run.admitted, run.first),
     "lost at": lambda run, of: run.demand(of.inlet or 0, run.first, LAST) - run.admitted(of.inlet or 0, run.first, LAST),
     "travel": lambda run, of: run.mean_time(of),
     "cars": lambda run, of: len(run.seen(of.detector)),
     "flow": lambda run, of: (len(run.seen(of.detector)) * 3_600 / sum(run.on[of.detector or 0][run.first:])
                              if any(run.on[of.detector or 0][run.first:]) else None),
-    "speed": lambda run, of: statistics.mean(run.seen(of.detector)) * 27 if run.seen(of.detector) else None}
+    "speed": lambda run, of: statistics.mean(run.seen(of.detector)) * 27 if run.seen(of.detector) else None,
+    "on": lambda run, of: sum(run.on[of.detector or 0][run.first:])}
 """By a figure's key: what it is on a road."""
 OF_CHANGE: dict[str, Callable[[Watched, Watched, Of], list[float | None]]] = {
     "delay": lambda before, after, of: [None, None, find_delay(before, after)],
@@ -164,7 +169,31 @@ class Table(unittest.TestCase):
                     self.assertFigure(value.difference, wanted[1] - wanted[0], what)
                 known |= {figure.key} if wanted[-1] is not None else set()
                 self.assertEqual([alone.after for alone in measure_day([figure], runs[1])], [value.after if figure.of_road else None], what)
+            self.check_lost(chance, case, runs[1], watched[1], figures)
         self.assertEqual(known, OF_ROAD.keys() | OF_CHANGE.keys())
+
+    def check_lost(self, chance: random.Random, case: int, run: RoadRun, watched: Watched, figures: list[Figure]) -> None:
+        """Compare lost cars with known arrivals minus entries: at a ramp from 3 cars on, and never fewer than none."""
+        first = watched.first
+        missing = {0: (2, 3, -1, 8)[case], 1: (1, -2, 0, 5)[case]}  # at a ramp, and on the main road; the other ramp loses none
+        arrivals = {inlet: sorted(chance.sample(range(first, LAST), watched.admitted(inlet, first, LAST) + more)) for inlet, more in missing.items()}
+        before = {inlet: [*range(min(first, 5)), *steps] for inlet, steps in arrivals.items()}  # arrivals before the window count nothing
+        run = dataclasses.replace(run, arrivals=before)
+        wanted = [(0, 3, 0, 8)[case], (1, 0, 0, 5)[case], 0]
+        for inlet, lost in enumerate(wanted):
+            self.assertEqual([figure.measure(None, run).after for figure in figures if (figure.key, figure.of.inlet) == ("lost at", inlet)], [lost])
+        self.assertEqual([figure.measure(None, run).after for figure in figures if figure.key == "lost"], [sum(wanted)])
+
+    def test_lost_cars_make_bounds(self) -> None:
+        """Hours and delay are bounds of the true ones if a road loses cars, and say how many, on which road, and where."""
+        plan = Plan(length=120, inlets=[(0, 0)], zones=[(5, 0)], detectors=[60]).to_line()
+        rows = compare(figures := choose(list_figures(plan), "delay", "hours", "cars"), [[Value(1.0, 2.0, 1.0)] * len(figures)])
+        for lost, bound, words in (((0, 0), "", ""), ((0, 12.4), "at least", "12 at km 0 (after)"), ((3, 0), "at most", "3 at km 0 (before)"),
+                                   ((3, 4), "unknown", "3 at km 0 (before), 4 at km 0 (after)")):
+            for row in with_lost(rows, ["before", "after"], [{"km 0": cars} for cars in lost]):
+                is_bound = bool(bound) and row.figure.key != "cars"
+                self.assertEqual(row.bound, bound if is_bound else "")
+                self.assertEqual(row.words, f"Cars that cannot enter are lost: {words}; hours and delay leave them out." if is_bound else "")
 
     def test_names(self) -> None:
         """A figure of an inlet or a detector names its place; no two figures of a road have the same name. The main road's inlet is the

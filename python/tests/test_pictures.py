@@ -4,9 +4,12 @@ from __future__ import annotations
 import contextlib
 import io
 import re
+import subprocess
+import sys
 import unittest
 import unittest.mock
 
+from test_page import TOP, find_python
 from zegdrut.program.bars import Bar
 from zegdrut.roads.clock import Clock
 from zegdrut.reports.pictures import Chart, Line, draw_field
@@ -26,6 +29,19 @@ class Charts(unittest.TestCase):
         for name in names:
             chart.add(Line(name, [(0, 1.0), (HOUR, 2.0)], "#000", [0.0, 1.0] if has_band else None, [2.0, 3.0] if has_band else None))
         return chart.draw(width, 175)
+
+    def test_nothing_is_above_the_frame(self) -> None:
+        """A chart shows its `top`, and more if a line or a band is above it. The highest label is within the picture."""
+        for top, high, least in ((135.0, 100.0, 135), (135.0, 161.0, 161), (None, 161.0, 161)):
+            chart = Chart("Speed", "km/h", Clock(), 0, HOUR, top=top)
+            chart.add(Line("a", [(0, 50.0), (HOUR, high)], "#000", [40.0, high - 1], [60.0, high]))
+            svg = chart.draw(640, 175)
+            frame = float(re.findall(r'<rect x="[^"]*" y="([^"]*)" [^>]* fill="none"', svg)[0])
+            ys = [float(point.split(",")[1]) for points in re.findall(r'points="([^"]*)"', svg) for point in points.split()]
+            self.assertGreaterEqual(min(ys), frame - 0.01)
+            labels = {float(text): y for text, y in find_places(svg).items() if re.fullmatch(r"[0-9.]+", text)}
+            self.assertGreaterEqual(max(labels), least)
+            self.assertGreater(min(labels.values()), 11)
 
     def test_a_long_legend_has_its_own_line(self) -> None:
         for title, names, width, lines in (
@@ -68,6 +84,29 @@ class Bars(unittest.TestCase):
                     bar.show(done, 9, "; so far")
                 bar.end()
             self.assertEqual(said.getvalue(), wanted)
+
+    def draw(self, *setup: str) -> str:
+        """Return what a sweep of six runs writes to standard error, without the numbers of tqdm that depend on time."""
+        code = "\n".join([*setup, "import time", "from zegdrut.sweeps import sweep", "from zegdrut.program.bars import Bar",
+                          "from zegdrut.commands.sweep import show_on", "bar = Bar('runs', in_log=True)",
+                          "def model(x, seed):\n    time.sleep(0.2)\n    return {'y': 6 / x}",
+                          "sweep(model, {'x': range(6)}, jobs=1, progress=show_on(bar)); bar.end()"])
+        ran = subprocess.run([find_python("tqdm") or sys.executable, "-c", code], cwd=TOP, capture_output=True, text=True, check=False)
+        self.assertEqual((ran.returncode, ran.stdout), (0, ""), ran.stderr)
+        return ran.stderr
+
+    def test_a_bar(self) -> None:
+        """On a terminal and in a notebook, tqdm draws the bar; without it there are signs on a terminal, and nothing in a notebook."""
+        terminal, none = "import sys; sys.stderr.isatty = lambda: True", "import sys; sys.modules['tqdm'] = None"
+        notebook = "import sys, types; shell = types.SimpleNamespace(config={'IPKernelApp': {}})\n" \
+                   "sys.modules['IPython'] = types.SimpleNamespace(get_ipython=lambda: shell)"
+        if find_python("tqdm") is None:
+            self.skipTest("tqdm not installed")
+        for setup in (terminal, notebook):
+            self.assertRegex(self.draw(setup), r"100%\|\S+\| 6/6 \[.*runs/s, 1 failed\]")
+        self.assertRegex(self.draw(terminal, none), r"\n\[#{20}\.{20}\] 3 of 6 runs, 1 failed, \d s left"
+                         r"[^\n]*\n(.*\n){2}\[#{40}\] 6 of 6 runs, 1 failed, 0 s left")
+        self.assertEqual((self.draw(none, notebook), self.draw()), ("", ""))
 
 
 if __name__ == "__main__":

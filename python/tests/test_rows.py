@@ -62,14 +62,15 @@ class Rows(unittest.TestCase):
         self.assertEqual(add_up(ROWS, 1, 4), Sums(2, 3, 6))
         self.assertEqual(measure_traffic(ROWS, 1, 4), (2 / 6, 3 / 6, 1.5))
         self.assertEqual(measure_traffic(["...", "..#"]), (0, 0, None))
+        self.assertEqual(add_up(["9" * 40_000, "#" * 30_000 + "8.", "." * 20_000 + "0"]), Sums(40_002, 360_008, 90_003))
         for rows in ([], [""]):
             with self.assertRaisesRegex(ValueError, "there are no cells or no rows"):
                 measure_traffic(rows)
 
     def test_all_rows(self) -> None:
         """Compare the traffic of all rows with the diagram, over several pieces, with numpy and without it."""
-        for python in {sys.executable, find_python("numpy") or sys.executable}:
-            ran = subprocess.run([python, "-c", ALL_ROWS], capture_output=True, text=True, check=False, cwd=TOP)
+        for first in ("", "import sys\nsys.modules['numpy'] = None\n"):
+            ran = subprocess.run([find_python("numpy") or sys.executable, "-c", first + ALL_ROWS], capture_output=True, text=True, check=False, cwd=TOP)
             self.assertEqual((ran.returncode, ran.stdout), (0, "as expected\n"), ran.stderr)
 
     def test_arrays_of_labs(self) -> None:

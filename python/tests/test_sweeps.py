@@ -17,7 +17,8 @@ from typing import Any
 
 from test_page import TOP, find_python
 from zegdrut import Fault, NoProgram, Plan, RoadLab
-from zegdrut.commands.sweep import format_duration, read_seeds, read_values
+from zegdrut.commands.sweep import read_seeds, read_values
+from zegdrut.program.bars import format_duration
 from zegdrut.sweeps.pool import run_in_parallel
 from zegdrut.sweeps.results import Results, Row, read_rows, parse_cell, format_cell
 from zegdrut.sweeps import Failure, Flows, make_grid, sweep

@@ -52,7 +52,7 @@ class Tables(unittest.TestCase):
         self.run_roads()
         about = json.loads((self.folder / "out.csv.json").read_text(encoding="utf-8"))
         self.assertEqual(about["points"], [{"inflow": inflow, "slowing": slowing} for inflow in (10_000, 60_000) for slowing in (0, 9_000)])
-        self.assertEqual((about["model"], about["measure"], about["seeds"], about["part"]), ("model.py:road", "100:400", [1, 2], [1, 1]))
+        self.assertEqual((about["model"], about["measure"], about["seeds"]), ("model.py:road", "100:400", [[1, 2]] * 4))
         plan = Plan(length=60, inlets=[(0, 60_000)], zones=[(4, 9_000)], detectors=[20])
         self.assertEqual(about["plans"][3], json.loads(json.dumps(plan.to_line())))
         self.assertEqual({name: column["unit"] for name, column in about["columns"].items()}, {
@@ -113,6 +113,31 @@ class Tables(unittest.TestCase):
         self.assertRegex(ran.stderr, "out.csv was made by road-[0-9a-f]{12}, and this run is road-[0-9a-f]{12}; changed: the program\n")
         self.assertEqual((ran.returncode, ran.stderr.splitlines()[-1]), (1, "other.csv is different from out.csv"))
         self.assertEqual([row["flow"] for row in load(self.folder / "other.csv").rows], [row["flow"] for row in load(self.out).rows])
+
+    def test_a_table_that_grew(self) -> None:
+        """Grow a table by other points, seeds and a part: the file beside it lists all its runs in the order of its rows, and makes it again."""
+        words = ["-m", "zegdrut", "sweep", "model.py:profile", "--grid"]
+        for more in (["x=1,2", "--grid", "word=a", "--seeds", "1-3", "--out", "out.csv"],
+                     ["x=5,6,7", "--grid", "word=a", "--seeds", "4", "--part", "2/3", "--out", "part.csv"],
+                     ["x=2,3", "--grid", "word=a,b", "--seeds", "2,5", "--out", "out.csv", "--take", "part.csv"]):
+            self.assertEqual(self.run_command(*words, *more).returncode, 0)
+        about, rows = json.loads((self.folder / "out.csv.json").read_text(encoding="utf-8")), load(self.out).rows
+        self.assertEqual([(row["x"], row["word"], row["seed"]) for row in rows],
+                         [(point["x"], point["word"], seed) for point, seeds in zip(about["points"], about["seeds"]) for seed in seeds])
+        self.assertEqual([(*point.values(), seeds) for point, seeds in zip(about["points"], about["seeds"])],
+                         [(2, "a", [2, 5, 1, 3]), (2, "b", [2, 5]), (3, "a", [2, 5]), (3, "b", [2, 5]), (1, "a", [1, 2, 3]), (6, "a", [4])])
+        ran = self.run_command("-m", "zegdrut", "sweep", "--again", "out.csv.json")
+        self.assertEqual((ran.returncode, ran.stderr.splitlines()[-1]), (0, "out.again.csv is the same as out.csv, byte for byte"), ran.stderr)
+        self.assertEqual(load(self.folder / "out.again.csv").rows, rows)
+
+    def test_the_plans_of_a_table_that_grew(self) -> None:
+        self.run_roads()
+        self.run_command("-m", "zegdrut", "sweep", "model.py:road", "--grid", "inflow=20000", "--grid", "slowing=1", "--measure", "100:400",
+                         "--out", "out.csv")
+        about = json.loads((self.folder / "out.csv.json").read_text(encoding="utf-8"))
+        self.assertEqual([(plan["inlets"][0][1], plan["zones"][0][1]) for plan in about["plans"]],
+                         [(point["inflow"], point["slowing"]) for point in about["points"]])
+        self.assertEqual(about["seeds"], [[1], *[[1, 2]] * 4])
 
     def test_models_without_a_name(self) -> None:
         sweep(lambda x, seed: {"y": x}, {"x": [1]}, out=self.out)

@@ -6,10 +6,13 @@ import unittest
 
 from zegdrut import Plan, RoadLab
 from zegdrut.figures import RoadRun, read_run
-from zegdrut.figures.trips import Window, compute_delay
+from zegdrut.figures.queues import Waits, explain_outflow
+from zegdrut.figures.trips import Trips, Window, compute_delay
 from zegdrut.program.scripts import Script
 from zegdrut.program.wire import Fields
 from zegdrut.reports.report import Side, make_table, run_side
+from zegdrut.roads.capacity import measure_outflow
+from zegdrut.roads.demand import Drivers
 from zegdrut.roads.waiting import Queue, find_arrivals, find_narrow_zone, let_wait, name_by_arrival
 from zegdrut.commands.freeway import FIGURES
 
@@ -141,6 +144,39 @@ class Waiting(unittest.TestCase):
         self.assertAlmostEqual(rows["delay, vehicle hours"].difference.mean or 0, difference or -1, 9)
         swapped = make_table(sides[::-1], [day[::-1] for day in days], window)
         self.assertEqual({row.bound for row in swapped}, {"", "at most"})
+
+    def test_cars_that_nobody_knows(self) -> None:
+        """Cars that enter although nobody arrived keep their numbers, and no two cars get one number. Each car is on the road in the rows after
+        its number's step."""
+        trips = Trips({"length": 30, "exit": 1, "inlets": [[0, 0]]}, left={160: 20, 240: 30, 320: None}, cars=[0] * 11 + [1] * 4 + [2] * 2)
+        queue = Queue(waiting=[0] * 12 + [1] * 4)
+        for arrived, numbers in (([10, 20], {160: 20, 240: 30, 320: None}), ([8, 15], {128: 20, 240: 30, 320: None}),
+                                 ([8, 9, 15], {128: 20, 144: 30, 240: None}), ([8, 9, 10, 15], {128: 20, 144: 30, 160: None, 240: None})):
+            long = dataclasses.replace(trips, cars=[sum(step < row for step in (10, 15, 20)) - sum(step < row for step in (20, 30)) for row in range(41)])
+            found = name_by_arrival(long, {0: arrived}, {0: queue})
+            self.assertEqual(found.left, numbers, arrived)
+            steps = [number // 16 for number in numbers]
+            self.assertEqual(found.cars, [sum(step < row for step in steps) - sum(step < row for step in (20, 30)) for row in range(41)], arrived)
+
+    def test_close_to_the_outflow(self) -> None:
+        """A page says that the waiting is too low if fewer than 300 cars an hour lie between the demand and the flow out of a queue. That flow is
+        within the intervals of the table of inlets, which another program measured."""
+        for slowing, flow, half in ((0.1, 2_430, 52), (0.25, 1_854, 52), (0.5, 1_155, 55)):
+            found = measure_outflow(Drivers(5, round(slowing * ALWAYS)))
+            self.assertLess(abs(found.mean - flow), half + found.half)
+        drivers = Drivers(5, 10_486, 29_491, entry=40)
+        outflow = measure_outflow(drivers._replace(entry=0)).mean
+        for demand, is_said in ((outflow - 301, False), (outflow - 299, True), (None, False)):
+            said = explain_outflow(drivers, [[Waits(frozenset(), False, None), Waits(frozenset({0}), False, demand)]])
+            self.assertEqual([f"{demand:,.0f} cars per hour arrive, and a queue lets out {outflow:,.0f}" in one for one in said], [True] * is_said)
+
+    def test_the_demand_while_cars_wait(self) -> None:
+        """The cars that arrive at the main inlet in the steps in which cars wait, per hour."""
+        run_of_day, arrivals, queues, *_ = run(make_script(CLOSED), make_script([]))
+        waited = dataclasses.replace(run_of_day, waiting={0: queues[0].waiting}, arrived=name_by_arrival(run_of_day.trips, arrivals, queues))
+        steps = [step for step, cars in enumerate(queues[0].waiting) if cars]
+        self.assertAlmostEqual(Waits.of(waited).arriving or 0, 3_600 * len(set(steps) & set(arrivals[0])) / len(steps))
+        self.assertEqual(Waits.of(waited), (frozenset({0}), False, Waits.of(waited).arriving))
 
     def test_a_narrow_zone(self) -> None:
         """A road without sections gets a first zone of at most 1.5 km; a width that the file sets stays."""

@@ -6,4 +6,4 @@ from .measurements.calibration import (
     correct_factor as correct_factor, draw_first_points as draw_first_points, draw_next_points as draw_next_points,
     evaluate as evaluate, excess_seconds_per_km as excess_seconds_per_km, find_centre as find_centre, fit_minimum as fit_minimum,
     halton_number as halton_number, is_congested as is_congested, make_calibrated as make_calibrated, mean_or_zero as mean_or_zero,
-    solve as solve, use_one_thread as use_one_thread)
+    solve as solve)

@@ -1,6 +1,11 @@
 """Run the roads of known_results. Each model returns a count for a seed. Chances are in 1/65,536."""
 from __future__ import annotations
 
+import bisect
+import csv
+import functools
+from pathlib import Path
+
 from zegdrut import Fault, Plan, RoadLab
 from zegdrut.program.rows import count_cars
 
@@ -17,6 +22,10 @@ OUTFLOW, DOWNSTREAM = 1_500, 200
 """The steps in which the flow out of a jam is counted, and the cells to the detector after the jam."""
 WIDE_STEPS, QUEUE = 2_000, 500
 """The steps in which a wide jam is observed, and about the number of cars that it has at first."""
+
+OPEN, MIDDLE, DIAGRAM_STEPS = 1_000, (400, 600), 6_000
+"""For the fundamental diagram: the cells of the road and of its middle; the steps before it is measured, and those in which it is."""
+RING = Path(__file__).resolve().parent / "ring.csv"
 
 Counted = dict[str, float]
 
@@ -105,3 +114,31 @@ def wide_jam(start: int, seed: int) -> Counted:
         if row.strip(".123456789").strip("0#"):
             raise Fault("it is not a single jam of standing cars")
     return {"counted": rows[1].count("0") - rows[0].count("0")}
+
+
+@functools.cache
+def read_ring() -> list[tuple[float, float, float]]:
+    """Return the densities of ring.csv with their flows, and half the intervals of these."""
+    with open(RING, encoding="utf-8", newline="") as file:
+        return [(float(density), float(flow), float(half)) for density, flow, half in list(csv.reader(file))[1:]]
+
+
+def find_on_ring(density: float) -> tuple[float, float]:
+    """Return the flow on a ring at a density, and half its interval. Between two densities of ring.csv it is interpolated."""
+    ring = read_ring()
+    place = min(max(bisect.bisect(ring, (density,)), 1), len(ring) - 1)
+    (first, flow, half), (last, other, half_of_other) = ring[place - 1], ring[place]
+    return flow + (other - flow) * (density - first) / (last - first), max(half, half_of_other)
+
+
+def diagram(inflow: int, ramp: int, slowing: int, seed: int) -> Counted:
+    """Return the flow on the middle of an open road, its density, and the flow on a ring at this density.
+
+    Flows are in cars per 10,000 steps, the density in cars per 1,000 cells. The limit is 5 and the slowing chance 1/4, apart from the last
+    100 cells, whose slowing chance is `slowing`. A second inlet at cell 50 has the inflow chance `ramp`.
+    """
+    inlets = [(0, inflow), (50, ramp)] if ramp else [(0, inflow)]
+    with RoadLab(Plan(length=OPEN, inlets=inlets, zones=[(5, 16_384)] * 9 + [(5, slowing)], words=seed)) as lab:
+        lab.advance("A", 2 * DIAGRAM_STEPS, AT_ONCE)
+        there = lab.traffic("A", DIAGRAM_STEPS, 2 * DIAGRAM_STEPS, MIDDLE)
+    return {"counted": there.flow * 10_000, "density": there.density * 1_000, "known": find_on_ring(there.density)[0] * 10_000}

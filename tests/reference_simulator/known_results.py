@@ -8,6 +8,7 @@ The known results are computed here with differently written formulas of the sam
 import math
 import statistics
 import sys
+from pathlib import Path
 
 import numpy
 
@@ -23,10 +24,16 @@ def heading(title, names):
     print("".join(f"{name:>8} " for name in names) + "  counted      ±     known      off  allowed")
 
 
+def read_ring():
+    """Return the table of recipes/known_results/ring.csv."""
+    path = Path(__file__).resolve().parents[2] / "recipes" / "known_results" / "ring.csv"
+    return numpy.loadtxt(path, delimiter=",", skiprows=1, encoding="utf-8").T
+
+
 def line(point, counted, known, allowed):
     seeds, mean = len(counted), statistics.mean(map(float, counted))
     half = "" if seeds == 1 else f"{STUDENT[seeds] * statistics.stdev(map(float, counted)) / math.sqrt(seeds):.1f}"
-    print("".join(f"{one:8} " for one in point) + f"{mean:9.1f} {half:>6} {known:9.1f} {mean - known:8.1f} {allowed:8.1f}", flush=True)
+    print("".join(f"{one:>8} " for one in point) + f"{mean:9.1f} {half:>6} {known:9.1f} {mean - known:8.1f} {allowed:8.1f}", flush=True)
 
 
 def by_point(points, seeds):
@@ -66,9 +73,9 @@ def fronts():
         some = [point for point in points if point[0] == limit]
         roads = by_point([point[1:] for point in some], 4)
         lab, step = open_jams(roads, limit, 2_400, 10)
-        before = lab.entry[:, :2_400].copy()
+        before = lab.number[:, :2_400].copy()
         lab.run(step + 2_000)
-        stands = ((lab.speed[:, :2_400] >= 0) & (lab.entry[:, :2_400] == before)).sum(axis=1)
+        stands = ((lab.speed[:, :2_400] >= 0) & (lab.number[:, :2_400] == before)).sum(axis=1)
         found.update({point: 2_400 - stands[4 * number:4 * number + 4] for number, point in enumerate(some)})
     heading("cells that the front of a jam moves back", ("limit", "slowing", "start"))
     for point in points:
@@ -128,8 +135,30 @@ def wide_jams():
         line((start,), grown[4 * number:4 * number + 4], 2_000 * (5 / 9 - 1 + slow), 3 * (2_000 * slow * (1 - slow)) ** 0.5 / 2 + 2)
 
 
+def diagrams():
+    points = [(8_192, 0, 16_384), (16_384, 0, 16_384), (32_768, 0, 16_384), (65_536, 0, 16_384), (65_536, 2_048, 16_384)]
+    points += [(65_536, 8_192, slowing) for slowing in (16_384, 24_576, 28_672, 32_768, 40_960, 49_152, 57_344)]
+    roads = by_point(points, 4)
+    cells = numpy.arange(1_000)
+    slowings = numpy.where(cells < 900, 16_384, numpy.array([slowing for _, _, slowing, _ in roads])[:, None])
+    lab = Roads([seed for *_, seed in roads], [inflow for inflow, *_ in roads], numpy.full((len(roads), 1_000), 5), slowings,
+                ramp=(50, [ramp for _, ramp, _, _ in roads]))
+    middle = numpy.broadcast_to((cells >= 400) & (cells < 600), (len(roads), 1_000))
+    _, (there, moved) = lab.run(12_000, (), (6_000, 12_000, middle))
+    densities, flows, halves = read_ring()
+    heading("cars on an open road in 10,000 steps, beside a ring", ("inflow", "ramp", "slowing", "density"))
+    for number, point in enumerate(points):
+        some = slice(4 * number, 4 * number + 4)
+        density, counted = there[some] / 1_200_000, moved[some] / 120
+        known = numpy.interp(density, densities, flows) * 10_000
+        after = min(max(int(numpy.searchsorted(densities, density.mean(), "right")), 1), len(densities) - 1)
+        half_of_ring = max(halves[after - 1:after + 1]) * 10_000
+        spread = statistics.stdev(map(float, counted)) + statistics.stdev(map(float, known))
+        line((*point, f"{density.mean() * 1_000:8.1f}"), counted, known.mean(), STUDENT[4] * spread / 2 + half_of_ring)
+
+
 def main():
-    for number, table in enumerate((flows, fronts, times, outflows, wide_jams)):
+    for number, table in enumerate((flows, fronts, times, outflows, wide_jams, diagrams)):
         print("\n" * bool(number), end="")
         table()
 

@@ -1,7 +1,7 @@
 """Simulate many roads at once with arrays of numpy: a second simulator, for runs that would take the plain one hours.
 
-One table (roads by cells) has the speed of each car, and another one its step of entry, which determines its random words. The program
-was written from the section on steps in docs/FORMAT.md. It supports roads with one inlet at cell 0 and one deleted cell.
+One table (roads by cells) has the speed of each car, and another one its number, which determines its random words. The program
+was written from the section on steps in docs/FORMAT.md. It supports roads with an inlet at cell 0, a ramp, and one deleted cell.
 """
 import numpy
 
@@ -32,15 +32,16 @@ def words(seeds, streams, block):
 
 class Roads:
     """Roads of the same length. Each has a seed and an inflow, and for each cell a limit, a slowing chance, and a slowing chance of
-    standing cars (`starts`). The last cell is the deleted zone."""
+    standing cars (`starts`). `ramp` is a cell and the inflows there. The last cell is the deleted zone."""
 
-    def __init__(self, seeds, inflows, limits, slowings, starts=None):
-        self.seeds, self.inflows = numpy.array(seeds, dtype=numpy.uint64), numpy.array(inflows)
+    def __init__(self, seeds, inflows, limits, slowings, starts=None, ramp=None):
+        self.seeds = numpy.array(seeds, dtype=numpy.uint64)
+        self.inlets = [(cell, numpy.array(chances)) for cell, chances in ((0, inflows), *([ramp] if ramp else []))]
         self.limits, self.slowings = numpy.array(limits), numpy.array(slowings)
         self.starts = self.slowings if starts is None else numpy.array(starts)
         self.count, self.length = self.limits.shape
         self.speed = numpy.full((self.count, self.length), EMPTY)
-        self.entry = numpy.zeros((self.count, self.length), dtype=numpy.int64)
+        self.number = numpy.zeros((self.count, self.length), dtype=numpy.int64)
         self.blocked = set()
         self.step = 0
         self.words = numpy.zeros((self.count, self.length, 16), dtype=numpy.uint32)
@@ -49,7 +50,8 @@ class Roads:
         """Simulate one step. Return the cells and new speeds of the cars that moved, as tables (speed 0 without a car)."""
         place = self.step % 16
         if place == 0:
-            self.inlet_words = words(self.seeds, numpy.full(self.count, INLET, dtype=numpy.uint64), self.step // 16)
+            self.inlet_words = [words(self.seeds, numpy.full(self.count, INLET + index, dtype=numpy.uint64), self.step // 16)
+                                for index in range(len(self.inlets))]
             self.draw_all()
         self.enter(place)
         taken = self.speed >= 0
@@ -66,11 +68,11 @@ class Roads:
         new -= (new > 0) & (self.words[road, cell, place] < chance)
         moved = numpy.zeros_like(self.speed)
         moved[road, cell] = new
-        entry, drawn, target = self.entry[road, cell], self.words[road, cell], cell + new
+        number, drawn, target = self.number[road, cell], self.words[road, cell], cell + new
         stays = target < self.length - 1
         self.speed[:] = EMPTY
         road, target = road[stays], target[stays]
-        self.speed[road, target], self.entry[road, target], self.words[road, target] = new[stays], entry[stays], drawn[stays]
+        self.speed[road, target], self.number[road, target], self.words[road, target] = new[stays], number[stays], drawn[stays]
         self.step += 1
         return moved
 
@@ -82,14 +84,15 @@ class Roads:
         """Draw the words of this block for the cars at some places."""
         if not self.slowings.any() and not self.starts.any():
             return  # no car is slowed
-        numbers = (self.entry[road, cell] * 16).astype(numpy.uint64)
-        self.words[road, cell] = words(self.seeds[road], numbers, self.step // 16)
+        self.words[road, cell] = words(self.seeds[road], self.number[road, cell].astype(numpy.uint64), self.step // 16)
 
     def enter(self, place):
-        come = (self.speed[:, 0] < 0) & (self.inlet_words[:, place] < self.inflows) & (0 not in self.blocked)
-        road = numpy.nonzero(come)[0]
-        self.speed[road, 0], self.entry[road, 0] = 0, self.step
-        self.draw(road, numpy.zeros(len(road), dtype=int))
+        comes = [(self.speed[:, cell] < 0) & (drawn[:, place] < inflows) & (cell not in self.blocked)
+                 for (cell, inflows), drawn in zip(self.inlets, self.inlet_words)]
+        for index, ((cell, _), come) in enumerate(zip(self.inlets, comes)):
+            road = numpy.nonzero(come)[0]
+            self.speed[road, cell], self.number[road, cell] = 0, 16 * self.step + index
+            self.draw(road, numpy.full(len(road), cell))
 
     def run(self, to, watch=(), areas=None):
         """Run to a step. Return for each (site, first, last) of `watch` the cars that pass the site in steps first to last - 1, and the sum

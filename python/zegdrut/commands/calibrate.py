@@ -42,6 +42,7 @@ from ..roads.freeway_files import write_road
 from ..roads.units import count_things
 from .measured import (Congestion, add_congestion_argument, add_data_arguments, check_congested, format_shares, print_lines, read_days,
                        report_progress)
+from .sweep import add_dask_options, open_executor
 
 
 NO_CONGESTION = ("no station is congested (more than 10 km/h below its highest speed): these counts cannot determine the slow-to-start "
@@ -127,6 +128,7 @@ def read_arguments(words: Sequence[str] | None) -> argparse.Namespace:
     parser.add_argument("--fit", type=read_dates, default=[], metavar="DATE,..", help="fit to these days of the counts (default: the date of the road)")
     parser.add_argument("--check", type=read_dates, default=[], metavar="DATE,..", help="compare the result with these days of the counts")
     parser.add_argument("--jobs", type=int, metavar="N", help="processes (default: one for each processor)")
+    add_dask_options(parser)
     return parser.parse_args(words)
 
 
@@ -211,7 +213,9 @@ def run_calibration(given: argparse.Namespace, out: Path) -> None:
     limits = list_limits(figures, [day for _, day in days], bounds)
     report_progress(f"trying {search.total} points with the {count_things(len(limits), 'limit')} {', '.join(f'{one:g}' for one in limits)} km/h")
     bar = Bar("points", in_log=True)
-    found = calibrate(given.road.stem, days, bounds, search, lambda done, total, best: bar.show(done, total, describe_best(best)), given.jobs)
+    with open_executor(given.dask) as executor:
+        found = calibrate(given.road.stem, days, bounds, search, lambda done, total, best: bar.show(done, total, describe_best(best)), given.jobs,
+                          executor, given.ship)
     bar.end()
     days, checked = ([(dataclasses.replace(one, limit=found.limit), day) for one, day in each] for each in (days, checked))
     figures, measured = days[0]

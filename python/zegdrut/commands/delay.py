@@ -6,14 +6,19 @@
     --at NAME      the replica; by default the first one of each plan
     --metres M     the length of a cell: places are then shown in km, not as cells
     --seconds S    the length of a step (default: 1)
+    --no-queue     cars that cannot enter are lost, and do not wait before the road
     --demand       also show demand, admitted cars and lost demand of each inlet (demand.csv); this takes some seconds
     --minutes N    the period of entry in minutes (default: 1)
     --out FOLDER   the folder of the tables (default: out/)
 
 If the folder of BEFORE has a file units.json, such as recipes/freeway writes, its "metres" and "seconds" are the defaults.
 
+Cars that cannot enter wait before their inlet, and their waiting is part of the delay (`zegdrut.roads.waiting` has the rule). If cars wait,
+a car's entry is its arrival at the inlet, and the tables have rows for the queues.
+
 For one day it prints three tables, and writes them into the folder: the delay by period of entry (delay.csv), the cars that
-entered at each inlet (inlets.csv), and the sums in vehicle hours with a check (sums.csv).
+entered at each inlet (inlets.csv), and the sums in vehicle hours with a check (sums.csv). If cars wait, it also prints the queues
+(waiting.csv).
 For many days it prints one table: the mean of each figure before and after, and their difference, with 95 % intervals
 (days.csv). It also writes the figures of each day (by_day.csv) and a picture (differences.png).
 Status 1: a line is refused, the scripts have different plans, or the plan has no seed for many days.
@@ -28,18 +33,19 @@ import sys
 from pathlib import Path
 from typing import Sequence
 
-from ..figures.days import Days, run_over_days
+from ..figures.days import ROADS, Days, run_over_days
 from ..figures.delay import Delay, Entered, Group, compare_delays, to_vehicle_hours
 from ..figures.intervals import warn_few_days
 from ..figures.lost import compute_demands, compute_supplies
-from ..figures.table import FigureRow, Mean
-from ..figures.trips import Trips, Window, count_admitted_cars
+from ..figures.queues import EditedRoad, Waits, explain_growing, explain_outflow, find_bound, find_growing, find_inlets, read_roads, run_day
+from ..figures.simulation import RoadRun
+from ..figures.table import Figure, FigureRow, choose, list_figures, sort_inlets
+from ..figures.trips import Window, count_admitted_cars
 from ..program.errors import Fault, LabError, describe_error
-from ..program.lab import RoadLab
-from ..program.scripts import open_edited, follow_both, read_script, choose_replica, check_same_road
-from ..reports.outputs import prepare_folder
+from ..program.scripts import read_script, check_same_road
+from ..reports.outputs import format_csv, prepare_folder
 from ..roads.demand import Supply
-from ..roads.units import Units, count_things
+from ..roads.units import Units, count_things, format_fixed
 
 PICTURE = Path(__file__).with_name("differences.gnuplot")
 
@@ -71,10 +77,9 @@ def format_inlets(cost: Delay, inlets: Sequence[Sequence[int]], units: Units) ->
     return lines
 
 
-def compute_supplies_of_run(lab: RoadLab, at: str, trips: Trips) -> list[Supply]:
+def compute_supplies_of_run(road: EditedRoad, run: RoadRun) -> list[Supply]:
     """Return the demand of each inlet in a run, and the cars that it admitted."""
-    window = Window(0, trips.horizon)
-    return compute_supplies(compute_demands(lab.plan, lab.scenario(at), trips.horizon), count_admitted_cars(trips, window), window)
+    return compute_supplies(compute_demands(road.script.plan, road.edits, road.last), count_admitted_cars(run.trips, run.window), run.window)
 
 
 def format_demands(inlets: Sequence[Sequence[int]], before: list[Supply], after: list[Supply], units: Units) -> list[str]:
@@ -86,8 +91,27 @@ def format_demands(inlets: Sequence[Sequence[int]], before: list[Supply], after:
     return lines
 
 
-def format_sums(cost: Delay, seconds: float) -> list[str]:
-    """Return the table of sums in vehicle hours."""
+def format_waiting(figures: Sequence[Figure], runs: Sequence[RoadRun], inlets: frozenset[int], units: Units) -> list[str]:
+    """Return the table of the queues before the inlets where cars wait on one of the runs."""
+    lines = [f"inlet,{units.place_title()},waiting before veh·h,longest queue cars,until minute,waiting after veh·h,longest queue cars,until minute"]
+    plan = runs[0].trips.plan
+    for inlet in sort_inlets(plan):
+        if inlet in inlets:
+            of_inlet = choose(figures, "wait", "wait queue", "wait end", inlet=inlet)
+            numbers = [format_fixed(figure.measure(None, run).after, 3 if figure.key == "wait" else 1 if figure.key == "wait end" else 0)
+                       for run in runs for figure in of_inlet]
+            lines.append(",".join([str(inlet), units.place_value(plan["inlets"][inlet][0]), *numbers]))
+    return lines
+
+
+def list_waiting_sums(figures: Sequence[Figure], runs: Sequence[RoadRun], inlets: frozenset[int]) -> list[str]:
+    """Return the rows of the sums that say how much of the delay is waiting before an inlet."""
+    of_inlets = [figure for figure in figures if figure.key == "wait" and figure.of.inlet in inlets]
+    return [f"of this {figure.label.removeprefix('vehicle hours ')},,,,{format_fixed(figure.measure(*runs).difference, 3)}" for figure in of_inlets]
+
+
+def format_sums(cost: Delay, seconds: float, waiting: Sequence[str] = (), bound: str = "") -> list[str]:
+    """Return the table of sums in vehicle hours. `waiting` has the rows of queues. `bound` says how the delay relates to the true one."""
     lines = ["cars,number,mean delay s,greatest s,veh·h"]
     for name, group in {"through in both runs": cost.through, "of these, delayed": cost.delayed,
                         "still on the road": cost.inside}.items():
@@ -95,8 +119,8 @@ def format_sums(cost: Delay, seconds: float) -> list[str]:
         lines.append(f"{name},{group.cars},{format_mean_seconds(group.delay, group, seconds)},{greatest},{format_hours(group.delay, seconds)}")
     for name, group in {"only in the first run": cost.lost, "only in the second run": cost.gained}.items():
         lines.append(f"{name},{group.cars},,,{format_hours(group.delay, seconds)}")
-    return lines + [f"all cars,,,,{format_hours(cost.total, seconds)}",
-                    f"check: cars in all rows,,,,{format_hours(cost.by_rows, seconds)}"]
+    return lines + [f"all cars{f' ({bound})' if bound else ''},,,,{format_hours(cost.total, seconds)}", *waiting,
+                    f"check: cars in all rows{' and before the road' if waiting else ''},,,,{format_hours(cost.by_rows, seconds)}"]
 
 
 def format_hours(steps: int, seconds: float) -> str:
@@ -115,8 +139,9 @@ def write_and_print(folder: Path, name: str, lines: list[str]) -> None:
     print("\n".join(lines), end="\n\n")
 
 
-def print_notes(cost: Delay, seconds: float) -> None:
-    """Print what the tables do not show: cars of one run only, and a run that ends too early."""
+def print_notes(cost: Delay, seconds: float, notes: Sequence[str]) -> None:
+    """Print what the tables do not show: notes, cars of one run only, and a run that ends too early."""
+    print("".join(f"{note}\n" for note in notes), end="")
     lost = sum(inlet.lost - inlet.gained for inlet in cost.inlets.values())
     if lost:
         more = "fewer" if lost > 0 else "more"
@@ -129,29 +154,32 @@ def print_notes(cost: Delay, seconds: float) -> None:
 
 # Many days
 
-def format_rows(rows: list[FigureRow]) -> list[str]:
-    """Return the table of means over all days."""
-    lines = ["mean of a day,before,±,after,±,difference,±,unpaired ±,days of opposite sign"]
+def format_rows(rows: Sequence[FigureRow]) -> list[str]:
+    """Return the table of means over all days. It says which figures are bounds, if some are."""
+    has_bounds = any(row.bound for row in rows)
+    table = [["mean of a day", "before", "±", "after", "±", "difference", "±", "unpaired ±", "days of opposite sign", *["bound"] * has_bounds]]
     for row in rows:
         numbers = [*row.before, *row.after, *row.difference, row.unpaired]
-        lines.append(",".join([row.figure.title, *(f"{number:.3f}" for number in numbers), str(row.others)]))
-    return lines
+        table.append([row.figure.title, *(format_fixed(number, 3) for number in numbers), str(row.others), *[row.bound] * has_bounds])
+    return format_csv(table)
 
 
 def format_days(days: Days) -> list[str]:
     """Return the table of the figures of each day."""
-    lines = [",".join(["day,seed", *(f"{figure.title} {when}" for figure in days.figures for when in ("before", "after"))])]
+    table = [["day", "seed", *(f"{figure.title} {when}" for figure in days.figures for when in ROADS)]]
     for number, (seed, values) in enumerate(zip(days.seeds, days.values)):
-        lines.append(",".join([str(number), str(seed), *(f"{one:.10g}" for value in values for one in (value.before, value.after))]))
-    return lines
+        table.append([str(number), str(seed), *("" if one is None else f"{one:.10g}" for value in values for one in (value.before, value.after))])
+    return format_csv(table)
 
 
-def draw_differences(folder: Path, difference: Mean, days: int) -> None:
-    """Draw the differences of all days, if gnuplot is installed."""
+def draw_differences(folder: Path, days: Days, row: FigureRow) -> None:
+    """Draw the differences of a figure on all days, if gnuplot is installed."""
     if shutil.which("gnuplot") is None:
         print("gnuplot is not installed, so there is no differences.png: install the package gnuplot-nox", file=sys.stderr)
         return
-    given = f"out='{folder}'; mean={difference.mean}; half={difference.half}; days={days}"
+    column = 2 * days.figures.index(row.figure) + 3
+    given = (f"out='{folder}'; mean={row.difference.mean}; half={row.difference.half}; days={len(days.seeds)}; column={column}; "
+             f"name='{row.figure.title.capitalize()}'")
     subprocess.run(["gnuplot", "-e", given, PICTURE], check=True)
 
 
@@ -159,12 +187,14 @@ def compare_over_days(given: argparse.Namespace) -> None:
     """Compare both scripts over many days."""
     before, after = map(read_script, given.scripts)
     prepare_folder(given.out)
-    days = run_over_days(before, after, given.days, given.at, read_units(given), given.scripts)
+    days = run_over_days(before, after, given.days, given.at, read_units(given), given.scripts, has_queue=not given.no_queue)
     rows = days.rows()
     print("".join(f"{one}\n" for one in warn_few_days(given.days)), end="", file=sys.stderr, flush=True)
     write_and_print(given.out, "days.csv", format_rows(rows))
     write_table(given.out, "by_day.csv", format_days(days))
-    draw_differences(given.out, rows[0].difference, given.days)
+    print("".join(f"{note}\n" for note in days.notes), end="")
+    # All hours include those of cars that wait.
+    draw_differences(given.out, days, next((row for row in rows if row.figure.key == "all hours"), rows[0]))
 
 
 def read_units(given: argparse.Namespace) -> Units:
@@ -186,6 +216,7 @@ def read_arguments(words: Sequence[str] | None, example: Sequence[str], out: Pat
     parser = argparse.ArgumentParser("zegdrut delay", description=__doc__, formatter_class=argparse.RawDescriptionHelpFormatter)
     parser.add_argument("--days", type=int, metavar="N")
     parser.add_argument("--demand", action="store_true", help="show the demand of each inlet, and how much of it was lost (takes some seconds)")
+    parser.add_argument("--no-queue", action="store_true", help="cars that cannot enter are lost, and do not wait before the road")
     parser.add_argument("--at", metavar="NAME")
     parser.add_argument("--metres", type=float, metavar="M")
     parser.add_argument("--seconds", type=float, metavar="S")
@@ -207,23 +238,22 @@ def compare(given: argparse.Namespace) -> None:
         raise Fault(f"--minutes {given.minutes:g} must be at least one step ({seconds:g} s)")
     scripts = list(map(read_script, given.scripts))
     prepare_folder(given.out)
-    labs = [open_edited(path, script) for path, script in zip(given.scripts, scripts)]
-    try:
-        plan = scripts[0].plan
-        check_same_road(plan, scripts[1].plan)
-        period = max(round(given.minutes * 60 / seconds), 1)
-        before, after = follow_both(labs, given.at)
-        cost = compare_delays(before, after, period)
-        supplies = [compute_supplies_of_run(lab, choose_replica(lab, given.at), trips) for lab, trips in zip(labs, (before, after))] if given.demand else []
-    finally:
-        for lab in labs:
-            lab.close()
+    roads = read_roads(given.scripts, scripts, given.at)
+    plan = scripts[0].plan
+    check_same_road(plan, scripts[1].plan)
+    runs = [run_day(road.script, None if given.no_queue else road.free, Window(0, road.last), detectors=[], seconds=seconds) for road in roads]
+    cost = compare_delays(runs[0].by_arrival, runs[1].by_arrival, max(round(given.minutes * 60 / seconds), 1))
+    waits = [list(map(Waits.of, runs))]
+    grow, inlets, figures = find_growing(waits), find_inlets(waits), list_figures(plan, units)
+    supplies = [compute_supplies_of_run(road, run) for road, run in zip(roads, runs)] if given.demand else []
     write_and_print(given.out, "delay.csv", format_delays(cost, seconds, given.minutes))
     write_and_print(given.out, "inlets.csv", format_inlets(cost, plan["inlets"], units))
-    write_and_print(given.out, "sums.csv", format_sums(cost, seconds))
+    if inlets:
+        write_and_print(given.out, "waiting.csv", format_waiting(figures, runs, inlets, units))
+    write_and_print(given.out, "sums.csv", format_sums(cost, seconds, list_waiting_sums(figures, runs, inlets), find_bound(grow)))
     if given.demand:
         write_and_print(given.out, "demand.csv", format_demands(plan["inlets"], supplies[0], supplies[1], units))
-    print_notes(cost, seconds)
+    print_notes(cost, seconds, [note for note in (explain_growing(ROADS, grow), *explain_outflow(roads[0].drivers, waits)) if note])
 
 
 def main(words: Sequence[str] | None = None, example: Sequence[str] = (), out: Path = Path("out")) -> int:

@@ -43,7 +43,7 @@ from ..roads.freeway import (Fault, Figures, Road, Section, measure_chances, fin
                        widen_inlets)
 from ..roads.inflow import run_script
 from ..roads.road_scripts import Chances, make_commands, make_plan, make_script
-from ..roads.units import CELLS_A_KM, HOUR, KMH, METRES, format_km, to_cells, to_steps
+from ..roads.units import CELLS_A_KM, HOUR, KMH, METRES, format_distance, format_km, to_cells, to_km, to_steps
 
 FIGURES = Figures(
     length=3, limit=130,            # km; km/h, rounded to 27, 54, 81, 108 or 135
@@ -85,7 +85,7 @@ def measure_chances_aloud(road: Road) -> Chances:
 def format_demands(road: Road, found: Chances, start: Script) -> Lines:
     """Return the table of demand, admitted cars and lost demand (demand minus admitted) of each inlet and hour.
 
-    ± is how far the number of cars that a free road admits may vary by chance."""
+    ± is how far the number of cars that a free road admits may vary by chance. If more cars enter than the demand, none is lost."""
     report_progress("measuring the inflow in the long run and in this run")
     trips = follow_run(road, start)
     times = "from,to" if road.clock else "from minute,to minute"
@@ -95,8 +95,8 @@ def format_demands(road: Road, found: Chances, start: Script) -> Lines:
             last = min(first + HOUR, road.steps)
             came = count_admitted_cars(trips, Window(first, last))[inlet]
             supply = Supply(count_demand(demand, first, last), came)
-            lines.append(f"{cell / CELLS_A_KM:g},{format_time(road, first)},{format_time(road, last)},{supply.demand:.1f},{came},"
-                         f"{supply.lost:.1f},{supply.scatter:.0f}")
+            lines.append(f"{format_km(cell)},{format_time(road, first)},{format_time(road, last)},{supply.demand:.1f},{came},"
+                         f"{max(supply.lost, 0.0):.1f},{supply.scatter:.0f}")
     note_full_inlets(road, found)
     return lines
 
@@ -111,7 +111,7 @@ def note_full_inlets(road: Road, found: Chances) -> None:
     for (cell, demand), cars in zip(road.inlets, zip(*pieces)):
         asked, hours = find_rate(demand, step), (bounds[-1] - bounds[0]) / HOUR
         if is_short(Supply(asked * hours, sum(cars))):
-            road.notes.append(f"at km {cell / CELLS_A_KM:g} only {sum(cars) / hours:.0f} of {asked:g} cars per hour can enter in the "
+            road.notes.append(f"at km {format_distance(to_km(cell))} only {sum(cars) / hours:.0f} of {asked:g} cars per hour can enter in the "
                               "long run, because the road downstream is full")
 
 

@@ -1,6 +1,6 @@
 """Meter an on-ramp by ALINEA in a closed loop, and compare it with no control over some days.
 
-    python3 -m zegdrut metering ROAD.json CONTROL.json [--days N] [--as-if-from TIME] [--out FOLDER]
+    python3 -m zegdrut metering ROAD.json CONTROL.json [--days N] [--no-queue] [--as-if-from TIME] [--out FOLDER]
 
 ROAD.json is a freeway with a ramp, as `zegdrut freeway` reads it. CONTROL.json has
 
@@ -11,8 +11,8 @@ which a car is in the cell of the detector). gain is in cars per hour and per ce
 hour. begin is the time when metering starts. Only ramp, detector and setpoint are required.
 
 Cars wait before the ramp in a vertical queue (arrivals minus admitted cars), whether the ramp is metered or not. The waiting time is
-the sum of the queue over all seconds, in vehicle hours, listed next to the hours on the road. With --as-if-from TIME the first day is
-simulated without control, and then again as if metering had started at TIME, by edits in the past. Both runs are compared.
+the sum of the queue over all seconds, in vehicle hours, listed next to the hours on the road. Cars that cannot enter at km 0 or at another
+ramp wait, too, unless --no-queue says that they are lost. With --as-if-from TIME the first day is simulated without control, and then again as if metering had started at TIME, by edits in the past. Both runs are compared.
 The command prints a table of means and 95 % intervals (Student's t, paired by day), and writes it to metering-NAME-0630-0930.csv, with
 the window in the name. It writes the first day to minutes-NAME-0630-0930.csv. With --as-if-from it writes as-if-NAME-0630-0930.csv and
 as-if-minutes-NAME-0630-0930.csv.
@@ -21,14 +21,17 @@ from __future__ import annotations
 
 import argparse
 import dataclasses
+import functools
 import json
 import math
 import sys
+from concurrent.futures import Executor
 from dataclasses import dataclass
 from pathlib import Path
-from typing import NamedTuple, Sequence
+from typing import Callable, NamedTuple, Sequence
 
 from ..figures.intervals import CHANCE, warn_few_days
+from ..figures.queues import WAITING_KEYS, Waits, explain_growing, explain_outflow, find_growing, find_inlets, is_shown, with_bounds
 from ..figures.simulation import RoadRun, read_run, simulate_days
 from ..figures.table import Figure, FigureRow, choose, compare as compare_figures, list_figures, measure_day
 from ..figures.trips import Window
@@ -41,9 +44,11 @@ from ..roads.control import RampMeter, run_control
 from ..roads.demand import Admission, AdmissionByFlow, BeyondCapacity, measure_by_flow, find_rate
 from ..roads.freeway import Figures, Road, measure_chances, make_road, widen_inlet
 from ..roads.freeway_files import is_number, check_names
-from ..roads.road_scripts import Chances, make_base_edits, make_commands, make_plan
-from ..roads.units import format_fixed, to_cells, to_steps
+from ..roads.road_scripts import Chances, make_plan, make_script
+from ..roads.units import format_fixed, to_cells, to_km, to_steps
+from ..roads.waiting import Queues, ask_edits, find_arrivals, find_narrow_zone
 from .freeway import FIGURES, report_progress
+from .sweep import add_dask_options, open_executor
 from .measured import check_days
 
 DAYS = 20
@@ -81,6 +86,8 @@ class Site:
     cell: int
     control: Control
     admissions: AdmissionByFlow
+    has_queue: bool = True
+    """Whether cars that cannot enter at the other inlets wait before them."""
 
     def admission(self, step: int) -> Admission:
         """Return the admission of the ramp at the main demand of a step."""
@@ -89,7 +96,9 @@ class Site:
     def list_figures(self) -> list[Figure]:
         """Return the figures of a day: of the road, of the queue at the ramp, and the lost demand of the main road."""
         figures = list_figures(make_plan(self.road, self.chances, self.figures.seed))
-        return choose(figures, "hours", "waiting", "together", "queue", "left", inlet=self.inlet) + choose(figures, "lost at", inlet=0)
+        waits = [figure for figure in figures if figure.key in WAITING_KEYS and figure.of.inlet not in (None, self.inlet)]
+        first, *others = choose(figures, "hours", "waiting", "together", "queue", "left", inlet=self.inlet)
+        return [first, *waits, *others, *choose(figures, "lost at", inlet=0)]
 
     def meter(self, start: float) -> RampMeter:
         """Return a ramp meter that starts at a step (infinity: never)."""
@@ -137,9 +146,12 @@ def read_control(path: Path, figures: Figures) -> Control:
     return control
 
 
-def make_site(name: str, figures: Figures, control: Control) -> Site:
+def make_site(name: str, figures: Figures, control: Control, has_queue: bool = True) -> Site:
     """Make the road with detectors at and after the ramp, and measure the admission of the ramp at several main demands."""
-    road = make_road(widen_inlet(figures))
+    wide = widen_inlet(figures)
+    road = make_road(wide)
+    if has_queue and (zone := find_narrow_zone(road.zone, [wide])) != road.zone:
+        road = make_road(dataclasses.replace(wide, zone=to_km(zone)))
     wanted = to_cells(control.ramp)
     inlet = next((index for index, (cell, _) in enumerate(road.inlets) if index and cell == wanted), None)
     if inlet is None:
@@ -154,7 +166,7 @@ def make_site(name: str, figures: Figures, control: Control) -> Site:
     states = [tuple(find_rate(demand, step) for _, demand in before) for step in sorted({step for _, demand in before for step, _ in demand})]
     # All chances are measured, so that a day without control does not depend on the control.
     admissions = measure_by_flow([cell for cell, _ in before], wanted, states, road.drivers)
-    return Site(name, figures, road, chances, inlet, to_cells(control.detector), control, admissions)
+    return Site(name, figures, road, chances, inlet, to_cells(control.detector), control, admissions, has_queue)
 
 
 # Days
@@ -168,16 +180,28 @@ class Metered(NamedTuple):
 
 def run_metered(site: Site, lab: RoadLab, start: float) -> Metered:
     """Run a day with metering from step `start` on (infinity: never)."""
-    meter = site.meter(start)
-    run_control(lab, "A", [meter], 0, site.road.steps)
-    return Metered(read_run(lab, "A", Window(0, site.road.steps), [demand for _, demand in site.road.inlets], detectors=[]), meter.rates)
+    return run_with_queues(site, lab, start)[0]
+
+
+def run_with_queues(site: Site, lab: RoadLab, start: float) -> tuple[Metered, Queues]:
+    """Run a day with metering from step `start` on. Return it with the queues before the inlets that are not metered."""
+    meter, steps = site.meter(start), site.road.steps
+    queues = Queues(lab, "A", find_other_arrivals(site, lab.plan["words"]) if site.has_queue else {})
+    run_control(lab, "A", [meter], 0, steps, advance=queues.advance)
+    run = read_run(lab, "A", Window(0, steps), [demand for _, demand in site.road.inlets], detectors=[])
+    return Metered(dataclasses.replace(run, waiting={inlet: queue.waiting for inlet, queue in queues.of_inlet.items()}), meter.rates), queues
+
+
+def find_other_arrivals(site: Site, seed: int | str) -> dict[int, list[int]]:
+    """Return the arrivals at the inlets that are not metered."""
+    script, free = (make_script(site.road, site.chances, site.figures.seed, with_works).with_seed(seed) for with_works in (True, False))
+    return {inlet: steps for inlet, steps in find_arrivals(script, free, site.road.steps).items() if inlet != site.inlet}
 
 
 def open_day(site: Site, seed: int) -> RoadLab:
     """Start a day with its demand and works."""
     lab = RoadLab(make_plan(site.road, site.chances, seed))
-    for line in make_commands([*make_base_edits(site.road, site.chances), *site.road.edits]):
-        lab.ask(line)
+    ask_edits(lab, make_script(site.road, site.chances, seed).commands)
     return lab
 
 
@@ -190,29 +214,50 @@ def run_day(site: Site, seed: int) -> list[Metered]:
     return found
 
 
+def run_days(site: Site, seeds: Sequence[int], progress: Callable[[int, int], None] | None = None, executor: Executor | None = None,
+             ship: bool = False) -> list[list[Metered]]:
+    """Run days without control and with it, as `simulate_days` does."""
+    return simulate_days(functools.partial(run_day, site), seeds, progress, executor=executor, ship=ship)
+
+
 def run_again(site: Site, seed: int, start: int) -> list[Metered]:
     """Run a day without metering, and again with metering from step `start` on, by edits in its past."""
     with open_day(site, seed) as lab:
-        return [run_metered(site, lab, math.inf), run_metered(site, lab, start)]
+        plain, queues = run_with_queues(site, lab, math.inf)
+        queues.withdraw()
+        return [plain, run_metered(site, lab, start)]
 
 
 # Tables
 
+SIDES = ("without control", "with ALINEA")
 Table = list[list[str]]
 """The rows of a table, the titles first."""
 
 
 def compare_runs(site: Site, days: Sequence[Sequence[Metered]]) -> list[FigureRow]:
     """Return the figures over the days, without control and with it."""
-    figures = site.list_figures()
-    return compare_figures(figures, [measure_day(figures, *(one.run for one in day)) for day in days])
+    waits = list_waits(days)
+    figures = [figure for figure in site.list_figures() if is_shown(figure, find_inlets(waits))]
+    return with_bounds(compare_figures(figures, [measure_day(figures, *(one.run for one in day)) for day in days]), SIDES, waits)
+
+
+def list_waits(days: Sequence[Sequence[Metered]]) -> list[list[Waits]]:
+    """Return the queues of each day before the inlets that are not metered."""
+    return [[Waits.of(one.run) for one in day] for day in days]
+
+
+def explain_queues(site: Site, days: Sequence[Sequence[Metered]]) -> list[str]:
+    """Return the sentences that the figures of queues need."""
+    waits = list_waits(days)
+    return [one for one in (explain_growing(SIDES, find_growing(waits)), *explain_outflow(site.road.drivers, waits)) if one]
 
 
 def make_table(rows: Sequence[FigureRow]) -> Table:
     """Return the table of means over the days with 95 % intervals: without control, with it, and the difference, paired by day."""
     return [["mean of a day", "no control", "±", "ALINEA", "±", "difference", "±", "remark"],
             *([row.figure.title, *(format_fixed(number, 2) for mean in (row.before, row.after, row.difference) for number in mean),
-               CHANCE * bool(row.may_be_chance)] for row in rows)]
+               ", ".join(filter(None, [row.bound, CHANCE * bool(row.may_be_chance)]))] for row in rows)]
 
 
 def make_day_table(rows: Sequence[FigureRow], titles: Sequence[str]) -> Table:
@@ -241,33 +286,35 @@ def compare(given: argparse.Namespace, out: Path) -> None:
                     f"{figures.clock.to_text(round(figures.minutes * 60))}")
     folder = given.out or out / given.road.stem
     prepare_folder(folder)
-    site = make_site(given.road.stem, figures, control)
+    site = make_site(given.road.stem, figures, control, not given.no_queue)
     print("".join(f"{note}\n" for note in site.road.notes), end="", file=sys.stderr, flush=True)
     if start is not None:
         report_progress("simulating a day, and the same day again")
         both = run_again(site, figures.seed, start)
         titles = [f"seed {figures.seed}", "as it was", f"with metering from {figures.clock.to_text(start)} on"]
         write_tables(folder, site, f"seed {figures.seed}",
-                     {"as-if": make_day_table(compare_runs(site, [both]), titles), "as-if-minutes": make_minute_table(site, both)})
+                     {"as-if": make_day_table(compare_runs(site, [both]), titles), "as-if-minutes": make_minute_table(site, both)}, explain_queues(site, [both]))
         print(f"The tables are in {folder}", file=sys.stderr)
         return
     print("".join(f"{one}\n" for one in warn_few_days(given.days)), end="", file=sys.stderr, flush=True)
     bar = Bar("days", in_log=True)
     report_progress(f"simulating {given.days} days without control and with it")
-    days = simulate_days(lambda seed: run_day(site, seed), range(figures.seed, figures.seed + given.days), bar.show)
+    with open_executor(given.dask) as executor:
+        days = run_days(site, range(figures.seed, figures.seed + given.days), bar.show, executor, given.ship)
     bar.end()
-    write_tables(folder, site, f"mean of {given.days} days", {"metering": make_table(compare_runs(site, days))})
-    write_tables(folder, site, f"seed {figures.seed}", {"minutes": make_minute_table(site, days[0])}, is_printed=False)
+    write_tables(folder, site, f"mean of {given.days} days", {"metering": make_table(compare_runs(site, days))}, explain_queues(site, days))
+    write_tables(folder, site, f"seed {figures.seed}", {"minutes": make_minute_table(site, days[0])})
     print(f"The tables are in {folder}", file=sys.stderr)
 
 
-def write_tables(folder: Path, site: Site, days: str, tables: dict[str, Table], is_printed: bool = True) -> None:
-    """Write tables, and print the first one. Their first lines have the road, the window, the date and the days."""
+def write_tables(folder: Path, site: Site, days: str, tables: dict[str, Table], said: Sequence[str] | None = None) -> None:
+    """Write tables. Their first lines have the road, the window, the date and the days. Print the first one with the sentences `said`, if they
+    are given."""
     clock, steps = site.figures.clock, site.road.steps
     for name, rows in tables.items():
         write_csv(folder / f"{name}-{site.name}-{format_window(clock, steps)}.csv", f"{make_title(site.name, clock, steps)}, {days}", rows)
-    if is_printed:
-        print("\n".join(format_csv(next(iter(tables.values())))))
+    if said is not None:
+        print("\n".join([*format_csv(next(iter(tables.values()))), *said]))
 
 
 def read_arguments(words: Sequence[str] | None) -> argparse.Namespace:
@@ -276,8 +323,10 @@ def read_arguments(words: Sequence[str] | None) -> argparse.Namespace:
     parser.add_argument("road", type=Path, metavar="ROAD.json")
     parser.add_argument("control", type=Path, metavar="CONTROL.json")
     parser.add_argument("--days", type=int, default=DAYS, metavar="N", help="number of days to compare (default: %(default)s)")
+    parser.add_argument("--no-queue", action="store_true", help="cars that cannot enter at km 0 or at other ramps are lost")
     parser.add_argument("--as-if-from", metavar="TIME", help='rerun one day as if metering had started at TIME, such as "07:10"')
     parser.add_argument("--out", type=Path, metavar="FOLDER", help="folder of the tables")
+    add_dask_options(parser)
     return parser.parse_args(words)
 
 

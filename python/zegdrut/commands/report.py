@@ -1,10 +1,10 @@
 """Write a report of a freeway as one HTML file that prints on A4: diagrams, flow and speed by time, and a table with intervals.
 
-    python3 -m zegdrut report ROAD.json [--against OTHER.json] [--days N] [--counts CSV [--stations TABLE.csv]] [--out FILE.html]
+    python3 -m zegdrut report ROAD.json [--against OTHER.json ..] [--days N] [--counts CSV [--stations TABLE.csv]] [--out FILE.html]
 
 ROAD.json is a freeway as `zegdrut freeway` reads it. It is compared with OTHER.json, a file of the same road. By default it is
-compared with the same road without its sections and stalled cars, if it has any. Each day is a seed: both roads of a day have the same
-drivers. Each run begins some minutes before the window, so that the road is not empty when the window begins: earlier by twice the
+compared with the same road without its sections and stalled cars, if it has any. With two or three files after --against the report shows all
+of these roads side by side, and how each differs from the first one. Each day is a seed: all roads of a day have the same drivers. Each run begins some minutes before the window, so that the road is not empty when the window begins: earlier by twice the
 free travel time, unless --warm-up says otherwise. With --counts the report also compares ROAD.json with measured counts. It then
 takes the options of `zegdrut measured`. It writes report-NAME-0630-0930.html, and into the same folder the table, the series and the
 demand as CSV with units.
@@ -21,6 +21,7 @@ from pathlib import Path
 from typing import Any, Sequence
 
 from ..figures.intervals import warn_few_days
+from ..figures.queues import Waits, explain_outflow
 from ..figures.simulation import RoadRun
 from ..figures.table import FigureRow
 from ..figures.trips import Window
@@ -32,17 +33,18 @@ from ..program.errors import Fault, LabError, describe_error
 from ..program.wire import Record
 from ..reports.outputs import format_window, make_title as make_csv_title, prepare_file
 from ..reports.pictures import INLETS, Chart, Line
-from ..reports.report import PERIOD, Side, make_flow_series, make_records, make_speed_series, make_table, run_sides
+from ..reports.report import MOST_SIDES, PERIOD, Side, make_flow_series, make_records, make_speed_series, make_tables, run_sides
 from ..reports.report_page import Contents, draw_demands, format_page, make_list_html
 from ..roads.demand import BeyondCapacity, find_rate
-from ..roads.freeway import Figures, Road, measure_chances, make_roads, to_rates, warm_up_minutes, widen_inlets, with_warm_up
+from ..roads.freeway import Figures, Road, make_all_roads, measure_chances, to_rates, warm_up_minutes, widen_inlets, with_warm_up
 from ..roads.freeway_files import Demand
 from ..roads.road_scripts import make_script
-from ..roads.units import CELLS_A_KM, HOUR, KMH, count_things, format_km, to_km, to_steps
+from ..roads.units import HOUR, KMH, count_things, format_distance, format_km, to_km, to_steps
 from ..roads.waiting import find_narrow_zone
 from .freeway import FIGURES, report_progress
 from .measured import (Congestion, add_congestion_argument, add_count_options, add_demand_argument, check_congested, check_days, choose_factor,
                        format_hours, format_shares, format_speeds, make_comparison_charts, make_title, read_data)
+from .sweep import add_dask_options, open_executor
 
 DAYS = 5
 MOST_LISTED = 12
@@ -54,7 +56,8 @@ def read_arguments(words: Sequence[str] | None) -> argparse.Namespace:
     """Read the command line."""
     parser = argparse.ArgumentParser("zegdrut report", description=__doc__, formatter_class=argparse.RawDescriptionHelpFormatter)
     parser.add_argument("road", type=Path, metavar="ROAD.json")
-    parser.add_argument("--against", type=Path, metavar="OTHER.json", help="the road before (default: ROAD.json without its works)")
+    parser.add_argument("--against", type=Path, nargs="+", metavar="OTHER.json", help="the road before (default: ROAD.json without its works), or "
+                        "two or three roads: all others are compared with the first of them")
     parser.add_argument("--days", type=int, default=DAYS, metavar="N", help="number of days, each with a seed (default: %(default)s)")
     parser.add_argument("--counts", type=Path, metavar="CSV", help="measured counts to compare with")
     add_count_options(parser)
@@ -65,6 +68,7 @@ def read_arguments(words: Sequence[str] | None) -> argparse.Namespace:
     parser.add_argument("--no-queue", action="store_true", help="cars that cannot enter are lost, and do not wait before the road")
     parser.add_argument("--title", help="title of the report (default: the names of the files)")
     parser.add_argument("--out", type=Path, metavar="FILE.html", help="file of the report")
+    add_dask_options(parser)
     return parser.parse_args(words)
 
 
@@ -72,12 +76,12 @@ def read_arguments(words: Sequence[str] | None) -> argparse.Namespace:
 
 @dataclass(frozen=True)
 class Request:
-    """A request for a report: the road, the road before (if there is one), the names of both, the minutes before the window, the measured
+    """A request for a report: the road, the roads that it is compared with, the names of all, the minutes before the window, the measured
     counts, and the default title."""
 
     figures: Figures
-    other: Figures | None
-    names: tuple[str, str]
+    others: Sequence[Figures]
+    names: Sequence[str]
     warm: float
     measured: Measured | None
     title: str = ""
@@ -104,47 +108,64 @@ def read_request(given: argparse.Namespace) -> Request:
     if given.warm_up is not None and not 0 <= given.warm_up <= MOST_WARM_UP:
         raise Fault(f"--warm-up must be 0 to {MOST_WARM_UP:,} minutes, not {given.warm_up:g}")
     figures = FIGURES.override(given.road)
-    other, names = None, ("without works", "with works")
+    others: list[Figures] = []
+    names = ["simulated"]
     if given.against is not None:
-        other = FIGURES.override(given.against)
-        for name in ("length", "minutes", "begin", "date", "seed", "detectors", "entry"):
-            if getattr(figures, name) != getattr(other, name):
-                raise Fault(f"{given.against}: {name} is {getattr(other, name)}, but {getattr(figures, name)} in {given.road}: both "
-                            "files must describe the same road and time")
-        names = (given.against.stem, given.road.stem)
-        if names[0] == names[1]:
-            names = (f"{names[0]}, before", f"{names[1]}, after")
+        others, names = read_others(given, figures)
     elif figures.sections or figures.stalled:
-        other = dataclasses.replace(figures, sections=[], stalled=[])
-    else:
-        names = ("", "simulated")
-    make_roads(figures, other)  # (a road that cannot be made is refused here)
+        others, names = [dataclasses.replace(figures, sections=[], stalled=[])], ["without works", "with works"]
+    make_all_roads([*others, figures])  # (a road that cannot be made is refused here)
     measured = None
     if given.counts is not None:
         dated, measured = read_data(given)
         figures = dataclasses.replace(figures, date=dated.date)
-        other = None if other is None else dataclasses.replace(other, date=dated.date)
-    return Request(figures, other, names, warm_up_minutes(figures) if given.warm_up is None else given.warm_up, measured,
-                   given.road.stem if given.against is None else f"{given.road.stem} compared with {given.against.stem}", not given.no_queue)
+        others = [dataclasses.replace(other, date=dated.date) for other in others]
+    return Request(figures, others, names, warm_up_minutes(figures) if given.warm_up is None else given.warm_up, measured,
+                   given.road.stem if given.against is None else f"{given.road.stem} compared with {join_names([one.stem for one in given.against])}",
+                   not given.no_queue)
+
+
+def read_others(given: argparse.Namespace, figures: Figures) -> tuple[list[Figures], list[str]]:
+    """Read the files after --against. Return their roads, and the names of all roads. Fault: there are too many, or they differ in more than
+    their demand, drivers and works."""
+    if len(given.against) >= MOST_SIDES:
+        raise Fault(f"--against takes up to {MOST_SIDES - 1} files, not {len(given.against)}: a report has at most {MOST_SIDES} roads")
+    others = [FIGURES.override(path) for path in given.against]
+    for path, other in zip(given.against, others):
+        for name in ("length", "minutes", "begin", "date", "seed", "detectors", "entry"):
+            if getattr(figures, name) != getattr(other, name):
+                raise Fault(f"{path}: {name} is {getattr(other, name)}, but {getattr(figures, name)} in {given.road}: both "
+                            "files must describe the same road and time")
+        if [km for km, _ in other.ramps] != [km for km, _ in figures.ramps]:
+            raise Fault(f"{path}: its ramps are not those of {given.road}: both files must describe the same road and time")
+    names = [path.stem for path in (*given.against, given.road)]
+    if len(names) == 2 and names[0] == names[1]:
+        names = [f"{names[0]}, before", f"{names[1]}, after"]
+    if len(set(names)) < len(names):
+        raise Fault(f"two of the files have the name {next(name for name in names if names.count(name) > 1)}: the report calls roads by the names "
+                    "of their files, so rename one")
+    return others, names
+
+
+def join_names(names: Sequence[str]) -> str:
+    """Return names as a list in a sentence."""
+    return " and ".join([*([", ".join(names[:-1])] if names[:-1] else []), names[-1]])
 
 
 def make_sides(request: Request) -> tuple[list[Road], list[Side]]:
     """Return the roads and the sides of the report. They begin before the window."""
-    figures, *others = [with_warm_up(one, request.warm) for one in
-                        widen_inlets([request.figures] if request.other is None else [request.figures, request.other])]
-    after, before = make_roads(figures, others[0] if others else None)
-    zone = find_narrow_zone(after.zone, [figures, *others])
-    if request.has_queue and zone != after.zone:
-        narrow = [dataclasses.replace(one, zone=to_km(zone)) for one in (figures, *others)]
-        after, before = make_roads(narrow[0], narrow[1] if others else None)
-    pairs = [(request.names[1], after)] if before is None else [(request.names[0], before), (request.names[1], after)]
+    wide = [with_warm_up(one, request.warm) for one in widen_inlets([*request.others, request.figures])]
+    roads = make_all_roads(wide)
+    zone = find_narrow_zone(roads[0].zone, wide)
+    if request.has_queue and zone != roads[0].zone:
+        roads = make_all_roads([dataclasses.replace(one, zone=to_km(zone)) for one in wide])
     found = []
-    for name, road in pairs:
+    for name, road in zip(request.names, roads):
         report_progress(f"measuring the inflow chances for the demand of the road {name}")
         chances = measure_chances(road)
-        found.append(Side(name, make_script(road, chances, figures.seed), [demand for _, demand in road.inlets],
-                          make_script(road, chances, figures.seed, with_works=False) if request.has_queue else None))
-    return [road for _, road in pairs], found
+        found.append(Side(name, make_script(road, chances, wide[-1].seed), [demand for _, demand in road.inlets],
+                          make_script(road, chances, wide[-1].seed, with_works=False) if request.has_queue else None))
+    return roads, found
 
 
 def describe_works(figures: Figures) -> list[str]:
@@ -152,7 +173,8 @@ def describe_works(figures: Figures) -> list[str]:
     clock = figures.clock
     found = []
     for one in figures.sections:
-        what = [f"limit {one.limit:g} km/h"] if one.limit is not None else []
+        what = [f"{one.capacity:,.0f} cars/h"] if one.capacity is not None else []
+        what += [f"limit {one.limit:g} km/h"] if one.limit is not None else []
         what += [f"slowing {one.slowing:.0%}"] if one.slowing is not None else []
         what += [f"slow-to-start {one.start:.0%}"] if one.start is not None else []
         found.append(f"km {one.first:g} to {one.last:g}, {clock.to_text(round(one.begin * 60))} to {clock.to_text(round(one.end * 60))}: "
@@ -199,16 +221,22 @@ def make_demand_records(roads: Sequence[tuple[str, Figures]]) -> list[Record]:
 
 
 def describe_demands(request: Request) -> list[str]:
-    """Describe the demands of both roads, or only of one if they are the same."""
+    """Describe the demands of all roads, or only of one if they are the same."""
     roads = list_demands(request)
     return [f"{side}: {one}" if len(roads) > 1 else one for side, figures in roads for one in describe_demand(figures)]
 
 
 def list_demands(request: Request) -> list[tuple[str, Figures]]:
-    """Return the roads of a report by name, or only the road after if both have the same demand."""
-    if request.other is None or name_inlets(request.other) == name_inlets(request.figures):
-        return [(request.names[1], request.figures)]
-    return [(request.names[0], request.other), (request.names[1], request.figures)]
+    """Return the roads of a report by name, or only the last one if all have the same demand."""
+    if all(name_inlets(other) == name_inlets(request.figures) for other in request.others):
+        return [(request.names[-1], request.figures)]
+    return [*zip(request.names, [*request.others, request.figures])]
+
+
+def list_works(request: Request) -> list[str]:
+    """Describe the works of the road, and those of other roads that have some, after their names."""
+    others = [f"{name}: {one}" for name, figures in zip(request.names, request.others) for one in describe_works(figures)]
+    return [*others, *(f"{request.names[-1]}: {one}" if others else one for one in describe_works(request.figures))]
 
 
 # The page
@@ -236,7 +264,7 @@ def make_counts_html(given: argparse.Namespace, model: Model) -> str:
 
 
 def make_page(given: argparse.Namespace, request: Request, roads: Sequence[Road], sides: Sequence[Side], days: Sequence[Sequence[RoadRun]],
-              rows: Sequence[FigureRow], model: Model | None) -> str:
+              tables: Sequence[Sequence[FigureRow]], model: Model | None) -> str:
     """Return the report as HTML."""
     figures, road, window = request.figures, roads[-1], request.window
     clock = with_warm_up(figures, request.warm).clock
@@ -244,12 +272,13 @@ def make_page(given: argparse.Namespace, request: Request, roads: Sequence[Road]
     drivers = f"limit {road.limit * KMH:g} km/h, slowing {figures.slowing:.0%}" + (
         f", slow-to-start {figures.start:.0%}" if figures.start is not None else "")
     closed = [[(window.first + to_steps(one.begin), window.first + to_steps(one.end), one.at, one.at) for one in side.stalled]
-              for side in (request.other, figures) if side is not None]
+              for side in (*request.others, figures)]
     return format_page(Contents(
-        title=title, facts=[f"{road.length / CELLS_A_KM:g} km, one lane, {drivers}", *describe_demands(request)],
-        demand=make_demand_chart(list_demands(request)), works=describe_works(figures),
+        title=title, facts=[f"{format_distance(to_km(road.length))} km, one lane, {drivers}", *describe_demands(request)],
+        demand=make_demand_chart(list_demands(request)), works=list_works(request),
         notes=road.notes, clock=clock, window=window, length=road.length, detectors=road.detectors, sides=sides, days=days,
-        rows=rows, seed=figures.seed, closed=closed, more="" if model is None else make_counts_html(given, model)))
+        rows=tables[0], others=tables[1:], seed=figures.seed, closed=closed, more="" if model is None else make_counts_html(given, model),
+        remarks=explain_outflow(road.drivers, [list(map(Waits.of, runs)) for runs in days])))
 
 
 # The command
@@ -294,12 +323,13 @@ def write_report(given: argparse.Namespace, out: Path) -> None:
     roads, sides = make_sides(request)
     report_progress(f"simulating {count_things(given.days, 'day')}")
     bar = Bar("runs", in_log=True)
-    days = run_sides(sides, range(figures.seed, figures.seed + given.days), window, bar.show)
+    with open_executor(given.dask) as executor:
+        days = run_sides(sides, range(figures.seed, figures.seed + given.days), window, bar.show, executor, given.ship)
     bar.end()
-    rows = make_table(sides, days, window)
-    path.write_text(make_page(given, request, roads, sides, days, rows, model), encoding="utf-8")
+    tables = make_tables(sides, days, window)
+    path.write_text(make_page(given, request, roads, sides, days, tables, model), encoding="utf-8")
     title = f"{make_csv_title(given.road.stem, clock, window.steps)}, mean of {count_things(given.days, 'day')}"
-    write_table(path.with_name(f"figures-{given.road.stem}-{times}.csv"), title, make_records(sides, rows))
+    write_table(path.with_name(f"figures-{given.road.stem}-{times}.csv"), title, make_records(sides, tables))
     write_table(path.with_name(f"demand-{given.road.stem}-{times}.csv"), make_csv_title(given.road.stem, clock, window.steps),
                 make_demand_records(list_demands(request)))
     series = make_series_records(request, sides, roads, days)

@@ -34,23 +34,20 @@ import importlib
 import importlib.util
 import signal
 import sys
-import time
 from concurrent.futures import Executor
 from pathlib import Path
 from types import FrameType
-from typing import Iterator, Mapping, Sequence, cast
+from typing import Iterator, Sequence, cast
 
 from ..program.bars import Bar
 from ..program.errors import Fault, LabError, describe_error
 from ..reports.outputs import prepare_file
 from ..sweeps.marks import OtherMark
 from ..sweeps.about import About, Named, explain_change, read_about
-from ..sweeps.results import Row, Value, format_row, replace_file, read_rows, parse_cell, format_cell
-from ..sweeps.runs import Flows, Measure, Model, list_points, make_grid
-from ..sweeps.sweeps import Sweep, find_mark, sweep
+from ..sweeps.results import Row, format_row, replace_file, read_rows, parse_cell, format_cell
+from ..sweeps.runs import Flows, Measure, Model, Run, list_points, make_grid, runs
+from ..sweeps.sweeps import Progress, Sweep, find_mark, sweep
 
-EVERY = 10.0
-"""The seconds between lines of progress, if standard error is not a terminal."""
 NAMED = 10
 """The number of failed runs that are named on standard error."""
 
@@ -122,33 +119,6 @@ def find_measure(named: Named) -> Measure | None:
         return find_function(named)
 
 
-class ProgressDisplay:
-    """Progress and remaining time: a bar on a terminal, otherwise a line now and then."""
-
-    def __init__(self) -> None:
-        self._bar, self._last = Bar("runs"), time.monotonic()
-
-    def show(self, done: int, whole: int, failed: int, left: float) -> None:
-        """Show the number of runs done, of all runs and of failed runs, and the seconds left."""
-        more = (f", {failed} failed" if failed else "") + f", {format_duration(left)} left"
-        self._bar.show(done, whole, more)
-        if not sys.stderr.isatty() and time.monotonic() - self._last >= EVERY:
-            self._last = time.monotonic()
-            print(f"{done} of {whole} runs{more}", file=sys.stderr, flush=True)
-
-    def end(self) -> None:
-        """End the bar."""
-        self._bar.end()
-
-
-def format_duration(seconds: float) -> str:
-    """Return a duration as 1 h 05 min, 3 min 20 s or 7 s."""
-    whole = round(seconds)
-    if whole >= 3_600:
-        return f"{whole // 3_600} h {whole % 3_600 // 60:02} min"
-    return f"{whole // 60} min {whole % 60:02} s" if whole >= 60 else f"{whole} s"
-
-
 def write_means(path: Path, found: Sweep) -> None:
     """Write the table of means, to standard output if the path is -."""
     rows = found.means()
@@ -176,13 +146,18 @@ def read_arguments(words: Sequence[str] | None) -> argparse.Namespace:
     parser.add_argument("--unit", action="append", default=[], metavar="NAME=UNIT")
     parser.add_argument("--program", metavar="PATH")
     parser.add_argument("--timeout", type=float, metavar="SECONDS")
-    parser.add_argument("--dask", metavar="ADDRESS")
-    parser.add_argument("--ship", action="store_true")
+    add_dask_options(parser)
     parser.add_argument("--again", type=Path, metavar="FILE.json")
     given = parser.parse_args(words)
     if (given.model is None) == (given.again is None):
         parser.error("name a model, FILE.py:FUNCTION, or a table with --again")
     return given
+
+
+def add_dask_options(parser: argparse.ArgumentParser) -> None:
+    """Add the options of commands whose runs Dask may do."""
+    parser.add_argument("--dask", metavar="ADDRESS", help="run by the Dask workers of a scheduler, tcp://HOST:8786")
+    parser.add_argument("--ship", action="store_true", help="send the program and this package to workers that lack them")
 
 
 def split_options(name: str, given: Sequence[str]) -> dict[str, str]:
@@ -208,15 +183,15 @@ def raise_interrupt(_: int, __: FrameType | None) -> None:
     raise KeyboardInterrupt
 
 
-def read_request(given: argparse.Namespace) -> tuple[str, Named, Sequence[Mapping[str, Value]], list[int]]:
-    """Return the names of the model and the measurement, the points and the seeds of a command."""
+def read_request(given: argparse.Namespace) -> tuple[str, Named, list[Run]]:
+    """Return the names of the model and the measurement, and the runs of a command."""
     try:
-        return given.model, given.measure, read_points(given), read_seeds(given.seeds)
+        return given.model, given.measure, runs(read_points(given), read_seeds(given.seeds))
     except ValueError:
         raise Fault("write --seeds as 1-4 or 1,5,9") from None
 
 
-def find_again(given: argparse.Namespace, about: About) -> tuple[str, Named, Sequence[Mapping[str, Value]], list[int]]:
+def find_again(given: argparse.Namespace, about: About) -> tuple[str, Named, list[Run]]:
     """Return the same of a table, and print what has changed since. Fault: its model has no name."""
     if about.model is None or about.measure is None and about.plans:
         raise Fault(f"{given.again} names no {'measurement' if about.model else 'model'} that can be imported, such as MODULE:FUNCTION: make the "
@@ -226,7 +201,12 @@ def find_again(given: argparse.Namespace, about: About) -> tuple[str, Named, Seq
     table = given.again.with_name(about.table)
     if mark.text != about.mark:
         print(f"{table} was made by {about.mark}, and this run is {mark.text}{explain_change(table, mark)}", file=sys.stderr)
-    return about.model, about.measure, about.points, about.seeds
+    return about.model, about.measure, about.runs()
+
+
+def show_on(bar: Bar) -> Progress:
+    """Return a function that shows the progress of a sweep on a bar."""
+    return lambda done, whole, failed, left: bar.show(done, whole, f", {failed} failed" * bool(failed), left)
 
 
 @contextlib.contextmanager
@@ -258,28 +238,28 @@ def run_sweep(given: argparse.Namespace) -> int:
     """Run the sweep. Return the exit status."""
     about = read_about(given.again) if given.again else None
     try:
-        part = tuple(about.part) if about else read_pair(given.part, "/")
+        part = read_pair(given.part, "/")
     except ValueError:
         raise Fault("write --part as K/N") from None
-    model, measure, points, seeds = find_again(given, about) if about else read_request(given)
+    model, measure, listed = find_again(given, about) if about else read_request(given)
     first = given.again.with_name(about.table) if about else None
     out = given.out or (first.with_name(f"{first.stem}.again.csv") if first else Path("sweep.csv"))
     prepare_file(out)
     if given.means and str(given.means) != "-":
         prepare_file(given.means, "--means FILE")
-    shown = ProgressDisplay()
+    bar = Bar("runs", in_log=True)
     signal.signal(signal.SIGTERM, raise_interrupt)
     try:
         with open_executor(given.dask) as executor:
-            found = sweep(find_function(model), points, seeds, out=out, jobs=given.jobs, part=(part[0], part[1]), take=given.take,
-                          version=given.version, program=given.program, timeout=given.timeout, units=split_options("unit", given.unit),
-                          measure=find_measure(measure), named=(model, measure), progress=shown.show, executor=executor, ship=given.ship)
+            found = sweep(find_function(model), listed, out=out, jobs=given.jobs, part=part, take=given.take, version=given.version,
+                          program=given.program, timeout=given.timeout, units=split_options("unit", given.unit), measure=find_measure(measure),
+                          named=(model, measure), progress=show_on(bar), executor=executor, ship=given.ship)
     except KeyboardInterrupt:
-        shown.end()
+        bar.end()
         print(f"the finished runs are in {out}: the same command continues from there", file=sys.stderr)
         raise
     finally:
-        shown.end()
+        bar.end()
     if given.means:
         write_means(given.means, found)
     for failure in found.failures[:NAMED]:

@@ -23,6 +23,8 @@ from .trips import Trips, Window, entry_inlet, entry_step
 AskedRates = Sequence[tuple[int, "float | None"]]
 """The demand of an inlet over time, as (step, cars per hour), each until the next. None: it is unknown, and follows from the chance."""
 V = TypeVar("V")
+LEAST_AT_RAMP = 3
+"""With fewer missing cars at a ramp nobody waits, and none is lost: the gaps between cars of the main road differ by chance."""
 
 
 def list_chances(plan: PlanLine, edits: Sequence[Edit], inlet: int, last: int) -> list[tuple[int, int]]:

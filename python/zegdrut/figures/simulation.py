@@ -8,14 +8,18 @@
 """
 from __future__ import annotations
 
+import contextlib
+import functools
+from concurrent.futures import Executor
 from dataclasses import dataclass, field
-from typing import Callable, Mapping, Sequence, TypeVar, cast
+from typing import Callable, Generator, Mapping, Sequence, TypeVar, cast
 
 from ..program.errors import Fault, LabError
 from ..program.lab import RoadLab
+from ..program.programs import NoProgram
 from ..roads.demand import Rates
 from ..roads.units import HOUR
-from ..sweeps.pool import run_in_parallel
+from ..sweeps.engine import run_jobs
 from .trips import DetectorCount, Trips, Window, count_seconds_on
 
 Job = TypeVar("Job")
@@ -40,6 +44,8 @@ class RoadRun:
     """The length of a step."""
     arrived: Trips | None = None
     """Its cars by their arrivals, if cars waited before the road."""
+    arrivals: Mapping[int, Sequence[int]] = field(default_factory=dict)
+    """By the inlet's index: the steps in which cars arrive, if those that cannot enter are lost. An inlet that is left out loses none."""
     waiting: Mapping[int, Sequence[int]] = field(default_factory=dict)
     """By the inlet's index: the cars that wait before it after each step."""
 
@@ -94,29 +100,44 @@ def read_run(lab: RoadLab, at: str, window: Window, demands: Sequence[Rates] = (
                    lab.diagram(at, window.first, window.last - 1) if with_rows else (), seconds)
 
 
-def simulate_days(make_run: Callable[[Job], R], seeds: Sequence[Job], progress: Callable[[int, int], None] | None = None,
-                  name: Callable[[Job], object] = lambda seed: seed) -> list[R]:
-    """Return what `make_run` returns for each seed, in their order. The days run in parallel processes, one per processor.
+def iterate_days(make_run: Callable[[Job], R], seeds: Sequence[Job], name: Callable[[Job], object] = lambda seed: seed,
+                 executor: Executor | None = None, ship: bool = False, jobs: int | None = None) -> Generator[tuple[int, R], None, None]:
+    """Yield the index of each seed with what `make_run` returns for it, as the days end. They run in parallel processes, one per processor.
 
-    progress: called after each day with the number of days done and of all days.
     name: the seed of a job, for messages. (A job may be more than a seed, such as a seed and a road.)
+    executor: runs the days, in the form of `concurrent.futures`. ship: send this package and the program to its workers.
+    jobs: the number of processes.
 
-    Fault: a day failed. The message begins with its seed.
+    Fault: a day failed. The message begins with its seed. NoWorker: a worker of the executor cannot run the days.
     """
-    def attempt(seed: Job) -> R | Fault:
-        try:
-            return make_run(seed)
-        except (LabError, ValueError, ArithmeticError) as fault:
-            return Fault(str(fault))
-    found: dict[int, R] = {}
-    running = run_in_parallel(attempt, seeds)
-    try:
+    with contextlib.closing(run_jobs(functools.partial(attempt, make_run), seeds, jobs, executor, ship)) as running:
         for done in running:
             if done.error is not None or isinstance(done.value, Fault):
                 raise Fault(f"seed {name(seeds[done.job])}: {done.error or done.value}")
-            found[done.job] = cast(R, done.value)
+            yield done.job, cast(R, done.value)
+
+
+def simulate_days(make_run: Callable[[Job], R], seeds: Sequence[Job], progress: Callable[[int, int], None] | None = None,
+                  name: Callable[[Job], object] = lambda seed: seed, executor: Executor | None = None, ship: bool = False,
+                  jobs: int | None = None) -> list[R]:
+    """Return what `make_run` returns for each seed, in their order. `iterate_days` describes the other arguments, and the errors.
+
+    progress: called after each day with the number of days done and of all days.
+    """
+    found: dict[int, R] = {}
+    with contextlib.closing(iterate_days(make_run, seeds, name, executor, ship, jobs)) as days:
+        for place, run in days:
+            found[place] = run
             if progress:
                 progress(len(found), len(seeds))
-    finally:
-        running.close()
-    return [found[job] for job in range(len(seeds))]
+    return [found[place] for place in range(len(seeds))]
+
+
+def attempt(make_run: Callable[[Job], R], job: Job) -> R | Fault:
+    """Return what `make_run` returns for a job, or why it failed. NoProgram: there is no program."""
+    try:
+        return make_run(job)
+    except NoProgram:
+        raise
+    except (LabError, ValueError, ArithmeticError) as fault:
+        return Fault(str(fault))

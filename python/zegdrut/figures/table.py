@@ -18,7 +18,7 @@ from ..roads.demand import count_demand
 from ..roads.units import METRES, Units
 from .delay import compare_delays
 from .intervals import Estimate, count_opposite, estimate_mean, estimate_unpaired, may_be_chance
-from .lost import Queue, measure_queue
+from .lost import LEAST_AT_RAMP, Queue, measure_queue
 from .simulation import RoadRun
 from .trips import compute_delay, compute_delay_at, compute_travel_time, count_admitted_cars, count_vehicle_steps
 
@@ -80,6 +80,7 @@ def list_figures(plan: PlanLine, units: Units = FREEWAY) -> list[Figure]:
     inlets = sort_inlets(plan)
     starts = {inlet: units.place(plan["inlets"][inlet][0]) for inlet in inlets}
     ramps = {inlet: "the ramp" if len(inlets) == 2 else f"the ramp at {starts[inlet]}" for inlet in inlets[1:]}
+    several = {inlet: ramps.get(inlet, "the main road") for inlet in inlets if ramps}
     hours = "vehicle hours"
     return [
         Figure("delay", "delay", hours, 2, of_change=lambda before, after: Value(None, None, before.hours(compute_delay(
@@ -90,14 +91,16 @@ def list_figures(plan: PlanLine, units: Units = FREEWAY) -> list[Figure]:
         Figure("all hours", f"{hours} on the road and before it", hours, 2, lambda run: run.hours(
             count_vehicle_steps(run.trips, run.window) + sum(sum(run.list_waiting(inlet)) for inlet in inlets))),
         Figure("through", f"{hours} of cars through in both", hours, 2, of_change=compare_through),
-        *(figure for inlet, ramp in ramps.items() for figure in list_queue_figures(inlet, ramp)),
+        *(figure for inlet, ramp in ramps.items() for figure in list_queue_figures(inlet, ramp, [one for one in inlets if one != inlet])),
         Figure("left", "cars that left the road", "cars", 0, lambda run: float(sum(
             step is not None and run.window.first <= step < run.window.last for step in run.trips.left.values()))),
         Figure("entered", "cars that entered", "cars", 0, lambda run: float(len(run.trips.left))),
         Figure("demand", "demand", "cars", 0, sum_demand),
+        *(make_demand_figure(inlet, f"demand of {name}") for inlet, name in several.items()),
         Figure("admitted", "admitted cars", "cars", 0, lambda run: float(sum(count_admitted_cars(run.trips, run.window)))),
-        Figure("lost", "lost demand", "cars", 0, lambda run: sum_demand(run) - sum(count_admitted_cars(run.trips, run.window))),
-        *(make_lost_figure(inlet, f"lost demand of {ramps[inlet]}" if inlet in ramps else "lost main demand") for inlet in inlets),
+        *(make_admitted_figure(inlet, f"admitted cars of {name}") for inlet, name in several.items()),
+        Figure("lost", "lost demand", "cars", 0, sum_lost),
+        *(make_lost_figure(inlet, f"lost demand of {name}" if inlet in ramps else "lost main demand") for inlet, name in several.items()),
         *(make_travel_figure(inlet, None, f"travel time from {start} to the end") for inlet, start in starts.items()),
         *(figure for detector, place in enumerate(places) for figure in (
             *list_count_figures(detector, place),
@@ -135,9 +138,25 @@ def sum_demand(run: RoadRun) -> float:
     return sum(count_demand_of(run, inlet) for inlet in range(len(run.trips.plan["inlets"])))
 
 
+def count_lost(run: RoadRun, inlet: int) -> float:
+    """Return the lost demand of an inlet in the window: arrivals minus admitted cars, or demand minus admitted cars if no arrivals are known."""
+    admitted = count_admitted_cars(run.trips, run.window)[inlet]
+    if not run.arrivals:
+        return count_demand_of(run, inlet) - admitted
+    missing = sum(run.window.first <= step < run.window.last for step in run.arrivals.get(inlet, ())) - admitted
+    return float(missing if missing >= (1 if inlet == sort_inlets(run.trips.plan)[0] else LEAST_AT_RAMP) else 0)
+
+
+def sum_lost(run: RoadRun) -> float:
+    """Return the lost demand of all inlets in the window."""
+    if run.arrivals:
+        return sum(count_lost(run, inlet) for inlet in range(len(run.trips.plan["inlets"])))
+    return sum_demand(run) - sum(count_admitted_cars(run.trips, run.window))
+
+
 def compare_through(before: RoadRun, after: RoadRun) -> Value:
     """Return the vehicle hours of the cars that left the road in both runs."""
-    through = compare_delays(before.trips, after.trips).through
+    through = compare_delays(before.by_arrival, after.by_arrival).through
     return Value(before.hours(through.before), after.hours(through.after), before.hours(through.after) - before.hours(through.before))
 
 
@@ -147,10 +166,19 @@ def make_delay_figure(site: int | None, place: str) -> Figure:
         None, None, compute_delay_at(before.by_arrival, after.by_arrival, after.window, site).mean))
 
 
+def make_demand_figure(inlet: int, label: str) -> Figure:
+    """Return the demand of an inlet."""
+    return Figure("demand at", label, "cars", 0, lambda run: count_demand_of(run, inlet), of=Of(inlet))
+
+
+def make_admitted_figure(inlet: int, label: str) -> Figure:
+    """Return the cars that an inlet admits."""
+    return Figure("admitted at", label, "cars", 0, lambda run: float(count_admitted_cars(run.trips, run.window)[inlet]), of=Of(inlet))
+
+
 def make_lost_figure(inlet: int, label: str) -> Figure:
     """Return the lost demand of an inlet."""
-    return Figure("lost at", label, "cars", 0, lambda run: count_demand_of(run, inlet) - count_admitted_cars(run.trips, run.window)[inlet],
-                  of=Of(inlet))
+    return Figure("lost at", label, "cars", 0, lambda run: count_lost(run, inlet), of=Of(inlet))
 
 
 def make_travel_figure(inlet: int, detector: int | None, label: str) -> Figure:
@@ -168,12 +196,15 @@ def list_wait_figures(inlet: int, start: str) -> list[Figure]:
             Figure("wait end", f"end of the queue before {start}, after the begin", "min", 0, find_end, of=Of(inlet))]
 
 
-def list_queue_figures(inlet: int, ramp: str) -> list[Figure]:
-    """Return the figures of the queue before a ramp."""
+def list_queue_figures(inlet: int, ramp: str, others: Sequence[int]) -> list[Figure]:
+    """Return the figures of the queue before a ramp. Cars may wait before other inlets, too."""
     def queue(run: RoadRun) -> Queue:
         return measure_queue(run.trips, inlet, run.demands[inlet], run.window)
+
+    def sum_hours(run: RoadRun) -> float:
+        return count_hours(run) + queue(run).vehicle_hours + run.hours(sum(sum(run.list_waiting(other)) for other in others))
     return [Figure("waiting", f"vehicle hours waiting at {ramp}", "vehicle hours", 2, lambda run: queue(run).vehicle_hours, of=Of(inlet)),
-            Figure("together", "vehicle hours together", "vehicle hours", 2, lambda run: count_hours(run) + queue(run).vehicle_hours, of=Of(inlet)),
+            Figure("together", "vehicle hours together", "vehicle hours", 2, sum_hours, of=Of(inlet)),
             Figure("queue", f"longest queue at {ramp}", "cars", 0, lambda run: queue(run).longest, of=Of(inlet))]
 
 
@@ -182,7 +213,8 @@ def list_count_figures(detector: int, place: str) -> list[Figure]:
     of = Of(None, detector)
     return [Figure("cars", f"cars at {place}", "cars", 0, lambda run: float(run.count(detector).cars), of=of),
             Figure("flow", f"{place}: cars/h", "cars/h", 0, lambda run: run.count(detector).flow, of=of),
-            Figure("speed", f"{place}: time-mean km/h", "km/h", 1, lambda run: run.count(detector).time_mean_speed, of=of)]
+            Figure("speed", f"{place}: time-mean km/h", "km/h", 1, lambda run: run.count(detector).time_mean_speed, of=of),
+            Figure("on", f"{place}: time on", "s", 0, lambda run: float(run.count(detector).seconds_on), of=of)]
 
 
 # Days
@@ -200,6 +232,9 @@ class Mean(NamedTuple):
     half: float | None = None
 
 
+Bound = Literal["", "at least", "at most", "unknown"]
+
+
 @dataclass(frozen=True)
 class FigureRow:
     """A figure over some days."""
@@ -213,7 +248,7 @@ class FigureRow:
     """Half the interval of the difference if the days of both roads were independent."""
     others: int = 0
     """The number of days whose difference has the opposite sign."""
-    bound: Literal["", "at least", "at most", "unknown"] = ""
+    bound: Bound = ""
     """How the true figure relates to this one, if it is not equal."""
     words: str = ""
     """A sentence that the figure needs."""

@@ -29,19 +29,23 @@ Simulated values are means over the days of a point. The flows of a day are mult
 """
 from __future__ import annotations
 
+import contextlib
 import dataclasses
+import functools
 import math
 import random
 import statistics
-from concurrent.futures import ProcessPoolExecutor, as_completed
+from concurrent.futures import Executor
 from dataclasses import dataclass
-from typing import Callable, NamedTuple, Sequence
+from typing import Callable, NamedTuple, Sequence, cast
 
-from ..program.errors import Fault, LabError
+from ..figures.simulation import attempt
+from ..program.errors import Fault
 from ..roads import demand
-from ..roads.demand import QUICK, BeyondCapacity, count_demand, thread_count
+from ..roads.demand import QUICK, BeyondCapacity, count_demand
 from ..roads.freeway import ENTRY, Figures
 from ..roads.units import HOUR, KMH, to_limit
+from ..sweeps.engine import run_jobs
 from .comparison import Day, Model, make_model, simulate_day, with_measured_demand, with_stations
 from .congestion import find_free_speed
 from .measured import Measured
@@ -355,19 +359,23 @@ def solve(matrix: Sequence[Sequence[float]], rhs: Sequence[float]) -> list[float
     return [row[-1] / row[place] for place, row in enumerate(rows)]
 
 
-def use_one_thread() -> None:
-    """Let this process, which is one of many, simulate on one thread only."""
+def evaluate_alone(name: str, days: Sequence[MeasuredDay], job: tuple[Point, Sequence[int]]) -> list[Misfit]:
+    """Simulate a point on the days of some seeds, on one thread: the other processors have points of their own."""
     demand.MOST_THREADS = 1
+    return evaluate(name, days, *job)
 
 
 def calibrate(name: str, days: Sequence[MeasuredDay], bounds: Bounds = Bounds(), search: Search = Search(),
-              progress: Callable[[int, int, Trial], None] = lambda done, total, best: None, jobs: int | None = None) -> Calibration:
+              progress: Callable[[int, int, Trial], None] = lambda done, total, best: None, jobs: int | None = None,
+              executor: Executor | None = None, ship: bool = False) -> Calibration:
     """Fit the parameters to the counts and speeds of a road: search each limit, and return the calibration with the smallest error.
 
     days: the figures of the road and the counts of each measured day. jobs: processes; None: one for each processor.
     progress: gets the number of points tried, the number of all points, and the best trial of the round.
+    executor: simulates the points, in the form of `concurrent.futures`. ship: send this package and the program to its workers.
 
-    Fault: no point within the bounds admits the demand at any limit, or the road cannot be made."""
+    Fault: no point within the bounds admits the demand at any limit, or the road cannot be made. NoWorker: a worker of the executor
+    cannot run the points."""
     limits = list_limits(days[0][0], [measured for _, measured in days], bounds)
     total, found = search.total * len(limits), list[Calibration]()
     faults = list[Fault]()
@@ -377,7 +385,7 @@ def calibrate(name: str, days: Sequence[MeasuredDay], bounds: Bounds = Bounds(),
         def tell(done: int, best: Trial, before: int = place * search.total) -> None:
             progress(before + done, total, best)
         try:
-            found.append(calibrate_limit(name, limited, bounds, search, tell, jobs))
+            found.append(calibrate_limit(limited, bounds, search, tell, functools.partial(evaluate_alone, name, limited), jobs, executor, ship))
         except BeyondBounds as fault:
             faults.append(fault)
     if not found:
@@ -389,35 +397,34 @@ class BeyondBounds(Fault):
     """No point within the bounds admits the demand."""
 
 
-def calibrate_limit(name: str, measured_days: Sequence[MeasuredDay], bounds: Bounds, search: Search, progress: Callable[[int, Trial], None],
-                    jobs: int | None) -> Calibration:
-    """Fit the two chances and the demand factor at one limit. BeyondBounds: no point within the bounds admits the demand."""
+def calibrate_limit(measured_days: Sequence[MeasuredDay], bounds: Bounds, search: Search, progress: Callable[[int, Trial], None],
+                    work: Callable[[tuple[Point, Sequence[int]]], list[Misfit]], jobs: int | None, executor: Executor | None, ship: bool) -> Calibration:
+    """Fit the two chances and the demand factor at one limit. BeyondBounds: no point within the bounds admits the demand.
+
+    work: simulates a point on the days of some seeds. jobs, executor, ship: how the points are simulated side by side."""
     rng = random.Random(search.seed)
     tried: list[Trial] = []
     elites: list[list[Trial]] = []
-    with ProcessPoolExecutor(jobs or thread_count(), initializer=use_one_thread) as pool:
-        try:
-            factor = min(max(1.0, bounds.factor[0]), bounds.factor[1])
-            for number in range(search.rounds):
-                points = (draw_next_points(bounds, factor, elites[-1], search.points, rng) if number
-                          else draw_first_points(bounds, factor, search.first_points))
-                days = search.days if number else search.first_days
-                seeds = range(10_000 * (number + 1), 10_000 * (number + 1) + days)
-                running = {pool.submit(evaluate, name, measured_days, point, seeds): point for point in points}
-                found: list[Trial] = []
-                for ended in as_completed(running):
-                    found.append(make_trial(running[ended], number, ended.result()))
-                    progress(len(tried) + len(found), min(found, key=lambda one: one.error))
-                tried += found
-                elite = sorted((one for one in found if math.isfinite(one.error)), key=lambda one: one.error)[:search.elite]
-                if not elite:
-                    raise BeyondBounds("no point within the bounds admits the demand: it exceeds the capacity of an inlet. Widen the bounds of "
-                                       "slowing or factor")
-                elites.append(elite)
-                factor = correct_factor(bounds, elite)
-        except (LabError, KeyboardInterrupt):
-            pool.shutdown(cancel_futures=True)
-            raise
+    factor = min(max(1.0, bounds.factor[0]), bounds.factor[1])
+    for number in range(search.rounds):
+        points = (draw_next_points(bounds, factor, elites[-1], search.points, rng) if number
+                  else draw_first_points(bounds, factor, search.first_points))
+        days = search.days if number else search.first_days
+        seeds = range(10_000 * (number + 1), 10_000 * (number + 1) + days)
+        found: list[Trial] = []
+        with contextlib.closing(run_jobs(functools.partial(attempt, work), [(point, seeds) for point in points], jobs, executor, ship)) as running:
+            for done in running:
+                if done.error is not None or isinstance(done.value, Fault):
+                    raise Fault(str(done.error or done.value))
+                found.append(make_trial(points[done.job], number, cast(Sequence[Misfit], done.value)))
+                progress(len(tried) + len(found), min(found, key=lambda one: one.error))
+        tried += found
+        elite = sorted((one for one in found if math.isfinite(one.error)), key=lambda one: one.error)[:search.elite]
+        if not elite:
+            raise BeyondBounds("no point within the bounds admits the demand: it exceeds the capacity of an inlet. Widen the bounds of slowing or "
+                               "factor")
+        elites.append(elite)
+        factor = correct_factor(bounds, elite)
     last = [one for elite in elites[-2:] for one in elite]
     mean, spread = find_centre([one.point for one in last])
     fitted = fit_minimum(bounds, tried)

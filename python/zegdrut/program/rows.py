@@ -2,6 +2,7 @@
 from __future__ import annotations
 
 import importlib.util
+import zlib
 from typing import TYPE_CHECKING, Iterable, NamedTuple, Sequence
 
 if TYPE_CHECKING:
@@ -55,13 +56,28 @@ def count_cars(row: str) -> int:
 
 def add_up(rows: Iterable[str], first: int = 0, last: int | None = None) -> Sums:
     """Return the sums over the cells `first` to `last - 1` of each row, to the end if `last` is None."""
-    cells = "".join(row[first:last] for row in rows)
-    return count_digits(cells.encode("latin-1", "replace").translate(None, b".#"), len(cells))
+    return add_up_cells("".join(row[first:last] for row in rows).encode("latin-1", "replace"))
 
 
-def count_digits(digits: bytes, area: int) -> Sums:
-    """Return the sums of cells, by the speeds of their cars."""
-    return Sums(len(digits), sum(speed * digits.count(b"%d" % speed) for speed in range(1, FASTEST + 1)), area)
+ARE_DIGITS = bytes(code in b"0123456789" for code in range(256))
+"""Whether each character is a digit, for `bytes.translate`."""
+ADLER = 65_521
+"""The lower half of Adler-32, which C computes, is 1 + the sum of the bytes, modulo this number."""
+PIECE = 7_000
+"""Cells whose speeds have a sum below ADLER, and that stay in the processor's cache."""
+
+
+def add_up_cells(cells: bytes) -> Sums:
+    """Return the sums of cells, each a digit, "." or "#", without numpy and without a number for each cell."""
+    cars = speeds = 0
+    for start in range(0, len(cells), PIECE):
+        piece = cells[start:start + PIECE]
+        here = (zlib.adler32(piece.translate(ARE_DIGITS)) & 0xFFFF) - 1
+        codes = (zlib.adler32(piece) & 0xFFFF) - 1
+        empty = ord(".") * (len(piece) - here) - (ord(".") - ord("#")) * piece.count(b"#")
+        cars += here
+        speeds += (codes - empty - ord("0") * here) % ADLER
+    return Sums(cars, speeds, len(cells))
 
 
 BEFORE, AFTER = len('{"rows":["'), len('","')
@@ -88,13 +104,11 @@ class Rows(NamedTuple):
     def add_up(self, first: int, last: int | None) -> Sums:
         """Return the sums over the cells `first` to `last - 1` of each row, to the end if `last` is None. With numpy it is faster."""
         begin, end, _ = slice(first, last).indices(self.length)
-        area = self.size() * max(end - begin, 0)
         try:
             import numpy
         except ImportError:
-            starts = range(BEFORE, len(self.line), self.length + AFTER) if end - begin < self.length else ()
-            cells = b"".join(self.line[start + begin:start + end] for start in starts) if starts else self.line[BEFORE:]
-            return count_digits(cells.translate(None, b'.#",]}'), area)
+            starts = range(BEFORE, len(self.line), self.length + AFTER)
+            return add_up_cells(b"".join(self.line[start + begin:start + end] for start in starts))
         table, cars, speeds = numpy.frombuffer(self.line, dtype=numpy.uint8, offset=BEFORE).reshape(self.size(), -1)[:, begin:end], 0, 0
         for start in range(0, len(table), AT_ONCE):
             values = table[start:start + AT_ONCE] - ord("0")  # (unsigned: other characters become large numbers)
@@ -102,7 +116,7 @@ class Rows(NamedTuple):
             values *= are_cars
             cars += int(numpy.count_nonzero(are_cars))
             speeds += int(values.sum(axis=0, dtype=numpy.uint16).sum(dtype=numpy.int64))
-        return Sums(cars, speeds, area)
+        return Sums(cars, speeds, self.size() * max(end - begin, 0))
 
     def fill(self, array: Bytes) -> None:
         """Write the values of all cells into an array of steps by cells."""

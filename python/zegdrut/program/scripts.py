@@ -1,11 +1,10 @@
-"""Read scripts, run them, and compare two of them."""
+"""Read scripts, carry them out, and compare their plans."""
 from __future__ import annotations
 
 import json
 from pathlib import Path
 from typing import NamedTuple
 
-from ..figures.trips import Trips
 from .errors import Fault as Fault, Refused
 from .lab import RoadLab
 from .wire import Fields, PlanLine
@@ -77,18 +76,3 @@ def open_edited(name: Path | str, script: Script) -> RoadLab:
 def choose_replica(lab: RoadLab, at: str | None) -> str:
     """Return the replica `at`, or by default the first one of the plan. (Two scripts may name theirs differently.)"""
     return at or lab.plan["replicas"][0]
-
-
-def advance_both(labs: list[RoadLab], at: str | None) -> int:
-    """Simulate both runs up to the later of their two horizons, and return it."""
-    horizon = max(lab.advance(choose_replica(lab, at), 0) for lab in labs)
-    return max(lab.advance(choose_replica(lab, at), horizon) for lab in labs)
-
-
-def follow_both(labs: list[RoadLab], at: str | None) -> tuple[Trips, Trips]:
-    """Return the trips of both runs up to the later of their two horizons."""
-    horizon = advance_both(labs, at)
-    before, after = (Trips(lab.plan) for lab in labs)
-    for lab, trips in zip(labs, (before, after)):
-        trips.follow(lab, choose_replica(lab, at), horizon)
-    return before, after

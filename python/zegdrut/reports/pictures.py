@@ -18,6 +18,8 @@ from ..roads.clock import Clock
 
 MEASURED, SIMULATED, BEFORE, AFTER = "#000000", "#d55e00", "#0072b2", "#d55e00"
 """Colours that also differ for colour-blind readers."""
+ROADS = (BEFORE, AFTER, "#009e73", "#cc79a7")
+"""The colours of several roads."""
 INLETS = ("#000000", "#0072b2", "#d55e00", "#009e73", "#cc79a7")
 """The colours of the demands of inlets, from km 0 on."""
 WIDTH, HEIGHT = 640, 190
@@ -106,6 +108,7 @@ class Chart:
     last: int
     lines: list[Line] = field(default_factory=list)
     top: float | None = None
+    """What the chart shows at least."""
     offset: int = 0
     """The step of the run at which the clock begins."""
 
@@ -117,8 +120,9 @@ class Chart:
         """Return the chart as SVG."""
         values = [value for line in self.lines for part in ([value for _, value in line.points], line.high or ())
                   for value in part if value is not None]
-        step = choose_tick(self.top or max(values, default=1.0) or 1.0, 4)
-        top = math.ceil((self.top or max(values, default=1.0) or 1.0) / step - 1e-9) * step
+        most = max([self.top or 0.0, *values]) or 1.0
+        step = choose_tick(most, 4)
+        top = math.ceil(most / step - 1e-9) * step
         room = width - LEFT - RIGHT - LETTER * (len(self.title) + 3)
         has_own_line = width < NARROW or LETTER * sum(len(name) + 4 for name, _, _ in self.list_names()) > room
         ceiling = TOP + 14 * has_own_line

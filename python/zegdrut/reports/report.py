@@ -1,4 +1,4 @@
-"""Measure the figures of a report: a road before and after, over some days, with intervals.
+"""Measure the figures of a report: a road before and after, or several roads, over some days, with intervals.
 
     sides = [Side("without works", script), Side("with works", other)]
     days = run_sides(sides, seeds=range(1, 6), window=Window(0, 3_600))
@@ -6,27 +6,25 @@
 """
 from __future__ import annotations
 
-import dataclasses
+import functools
+from concurrent.futures import Executor
 from dataclasses import dataclass
 from typing import Callable, Sequence
 
 from ..figures.intervals import average_known
-from ..figures.simulation import RoadRun, read_run, simulate_days, split_window
-from ..figures.table import FigureRow, average_days, compare, list_figures, measure_day
+from ..figures.queues import WAITING_KEYS, Waits, average_lost, find_inlets, is_shown, run_day, with_bounds, with_lost
+from ..figures.simulation import RoadRun, simulate_days, split_window
+from ..figures.table import FigureRow, Mean, average_days, compare, list_figures, measure_day
 from ..figures.trips import Window
-from ..program.lab import RoadLab
 from ..program.scripts import Script
 from ..program.wire import Record
 from ..roads.demand import Rates
-from ..roads.waiting import ask_edits, find_arrivals, let_wait, name_by_arrival
 
+MOST_SIDES = 4
+"""The most roads of a report."""
 PERIOD = 300
 """The seconds of a point of the charts."""
 KEYS = ("delay", "delay at", "hours", "demand", "admitted", "lost", "travel", "flow", "speed")
-WAITING_KEYS = ("wait", "wait queue", "wait end", "all hours")
-"""The figures of cars that wait before the road, which are shown if cars wait."""
-GROWING_KEYS = ("delay", *WAITING_KEYS)
-"""The figures that are too small if cars still wait in the last row."""
 
 
 @dataclass(frozen=True)
@@ -38,60 +36,72 @@ class Side:
     demands: list[Rates]
     free: Script | None = None
     """The script without works, if cars that cannot enter wait before the road; otherwise they are lost."""
+    waits: bool = True
+    """Unless it is set, cars are lost even if `free` is given, and the figures of lost demand count them."""
 
 
 def run_side(side: Side, seed: int | str, window: Window, with_rows: bool) -> RoadRun:
     """Run a day of a road, and count in a window."""
-    script, last = side.script.with_seed(seed), window.last
-    with RoadLab(script.plan) as lab:
-        ask_edits(lab, script.commands)
-        arrivals = {} if side.free is None else find_arrivals(script, side.free.with_seed(seed), last)
-        queues = let_wait(lab, "A", arrivals, last)
-        run = read_run(lab, "A", window, side.demands, period=PERIOD, with_rows=with_rows)
-    return dataclasses.replace(run, arrived=name_by_arrival(run.trips, arrivals, queues),
-                               waiting={inlet: queue.waiting for inlet, queue in queues.items()})
+    return run_day(side.script.with_seed(seed), None if side.free is None else side.free.with_seed(seed), window, side.demands, period=PERIOD,
+                   with_rows=with_rows, waits=side.waits)
 
 
-def run_sides(sides: Sequence[Side], seeds: Sequence[int | str], window: Window,
-              progress: Callable[[int, int], None] | None = None) -> list[list[RoadRun]]:
-    """Run each side on each day, side by side; the first day keeps its rows."""
-    jobs = [(seed, side, place == 0) for place, seed in enumerate(seeds) for side in sides]
-    found = simulate_days(lambda job: run_side(job[1], job[0], window, job[2]), jobs, progress, name=lambda job: job[0])
+def run_side_of(window: Window, job: tuple[Side, int | str, bool]) -> RoadRun:
+    """Run a side on a day, and keep its rows if the job says so."""
+    side, seed, with_rows = job
+    return run_side(side, seed, window, with_rows)
+
+
+def run_sides(sides: Sequence[Side], seeds: Sequence[int | str], window: Window, progress: Callable[[int, int], None] | None = None,
+              executor: Executor | None = None, ship: bool = False) -> list[list[RoadRun]]:
+    """Run each side on each day, side by side, as `simulate_days` does; the first day keeps its rows."""
+    jobs = [(side, seed, place == 0) for place, seed in enumerate(seeds) for side in sides]
+    found = simulate_days(functools.partial(run_side_of, window), jobs, progress, lambda job: job[1], executor, ship)
     return [found[place:place + len(sides)] for place in range(0, len(found), len(sides))]
 
 
 # The table
 
 def make_table(sides: Sequence[Side], days: Sequence[Sequence[RoadRun]], window: Window) -> list[FigureRow]:
-    """Return the figures over all days. Those of cars that wait before the road are left out if nobody waits."""
-    waiting = {inlet for runs in days for run in runs for inlet in run.waiting if any(run.list_waiting(inlet))}
-    keys = (*KEYS, *(WAITING_KEYS if waiting else ()))
-    figures = [figure for figure in list_figures(sides[0].script.plan) if figure.key in keys and (figure.of_change is None or len(sides) == 2)
-               and (figure.key not in WAITING_KEYS or figure.of.inlet in {None, *waiting})]
-    rows = compare(figures, [measure_day(figures, *runs) for runs in days])
-    grow = [any(run.list_waiting(inlet)[-1:] > [0] for run in runs for inlet in run.waiting) for runs in zip(*days)]
-    return [with_bound(row, sides, grow) if any(grow) and row.figure.key in GROWING_KEYS else row for row in rows]
+    """Return the figures of one road or two over all days. Those of cars that wait before the road are left out if nobody waits."""
+    return make_tables(sides, days, window)[0]
 
 
-def with_bound(row: FigureRow, sides: Sequence[Side], grow: Sequence[bool]) -> FigureRow:
-    """Return a row that says that cars of some sides still wait in the last row."""
-    names = " and ".join(f"on the road {side.name}" for side, grows in zip(sides, grow) if grows)
-    return dataclasses.replace(row, bound="at least" if grow[-1] and not all(grow[:-1] or [False]) else "at most" if not grow[-1] else "unknown",
-                               words=f"Cars still wait at the end {names}: the figures of delay and waiting do not include what these cars lose later.")
+def make_tables(sides: Sequence[Side], days: Sequence[Sequence[RoadRun]], window: Window) -> list[list[FigureRow]]:
+    """Return a table for each road after the first one, compared with the first, or the table of a road alone. All have the same figures."""
+    waits = [list(map(Waits.of, runs)) for runs in days]
+    inlets = find_inlets(waits)
+    figures = [figure for figure in list_figures(sides[0].script.plan) if figure.key in (*KEYS, *WAITING_KEYS) and is_shown(figure, inlets)
+               and (figure.of_change is None or len(sides) > 1)]
+    pairs = [[0, place] for place in range(1, len(sides))] or [[0]]
+    tables = []
+    for places in pairs:
+        names = [sides[place].name for place in places]
+        rows = compare(figures, [measure_day(figures, *(runs[place] for place in places)) for runs in days])
+        tables.append(with_lost(with_bounds(rows, names, [[day[place] for place in places] for day in waits]), names,
+                                [average_lost([runs[place] for runs in days]) for place in places]))
+    return tables
 
 
-def make_records(sides: Sequence[Side], rows: Sequence[FigureRow]) -> list[Record]:
-    """Return the table as records for `pandas.DataFrame`."""
+def list_means(tables: Sequence[Sequence[FigureRow]], place: int, sides: int) -> list[Mean]:
+    """Return the means of a figure, by its place in the tables, on each of some roads."""
+    return [*([tables[0][place].before] if sides > 1 else []), *(rows[place].after for rows in tables)]
+
+
+def make_records(sides: Sequence[Side], tables: Sequence[Sequence[FigureRow]]) -> list[Record]:
+    """Return tables as records for `pandas.DataFrame`."""
     found = []
-    for row in rows:
+    for place, row in enumerate(tables[0]):
         record: Record = {"figure": row.figure.title}
-        for side, (mean, half) in zip(sides, (row.before, row.after)[-len(sides):]):
+        for side, (mean, half) in zip(sides, list_means(tables, place, len(sides))):
             record.update({side.name: mean, f"± {side.name}": half})
-        if len(sides) == 2:
-            record.update({"difference": row.difference.mean, "± difference": row.difference.half,
-                           "may be chance": None if row.may_be_chance is None else "yes" if row.may_be_chance else "no"})
-        if any(one.bound for one in rows):
-            record["bound"] = row.bound
+        for side, rows in zip(sides[1:], tables):
+            of, one = f" {side.name}" if len(sides) > 2 else "", rows[place]
+            record.update({f"difference{of}": one.difference.mean, f"± difference{of}": one.difference.half,
+                           f"may be chance{of}": None if one.may_be_chance is None else "yes" if one.may_be_chance else "no"})
+        for side, rows in zip(sides[-len(tables):], tables):
+            if any(one.bound for one in rows):
+                record[f"bound {side.name}" if len(sides) > 2 else "bound"] = rows[place].bound
         found.append(record)
     return found
 

@@ -18,8 +18,8 @@ from ..program.programs import program_path, read_record, sum_file
 from ..roads.clock import Clock
 from ..roads.demand import Rates
 from ..roads.units import CELLS_A_KM, count_things, format_fixed, format_km, to_km
-from .pictures import AFTER, BEFORE, INLETS, Chart, Line, draw_field, draw_scale, make_speed_field
-from .report import PERIOD, Side, make_flow_series, make_speed_series
+from .pictures import AFTER, INLETS, ROADS, Chart, Line, draw_field, draw_scale, make_speed_field
+from .report import PERIOD, Side, list_means, make_flow_series, make_speed_series
 
 CELLS_A_PIECE, STEPS_A_PIECE = 7, 30
 NO_SPEED_BANDS = ('<p class="note">The charts of speeds have no intervals: on some days no car may pass in a period, and such a day has no '
@@ -45,7 +45,7 @@ svg { max-width: 100%; height: auto; display: block; break-inside: avoid }
 
 @dataclass(frozen=True)
 class Contents:
-    """The contents of a report. `days` has for each day the runs of both sides."""
+    """The contents of a report. `days` has for each day the runs of all sides."""
 
     title: str
     facts: Sequence[str]
@@ -68,25 +68,56 @@ class Contents:
     """HTML that follows the charts."""
     demand: str = ""
     """A chart of the demand over time as SVG."""
+    others: Sequence[Sequence[FigureRow]] = ()
+    """The rows of further roads. `rows` compares the second road with the first, and each of these a further road with the first."""
+    remarks: Sequence[str] = ()
+    """Sentences that the table of figures needs."""
 
 
-def make_table_html(sides: Sequence[Side], rows: Sequence[FigureRow], days: int) -> str:
-    """Return the table of figures as HTML."""
-    head = "".join(f"<th>{escape(side.name)}</th><th>±</th>" for side in sides)
-    head += "<th>difference</th><th>±</th><th></th>" if len(sides) == 2 else ""
-    lines = []
-    for row in rows:
-        shown = (row.before, row.after, row.difference) if len(sides) == 2 else (row.after,)
-        cells = [format_fixed(value, row.figure.digits, ",") for mean in shown for value in mean]
-        cells += [CHANCE * bool(row.may_be_chance)] if len(sides) == 2 else []
-        title = f"{row.figure.title} ({row.bound})" if row.bound else row.figure.title
-        lines.append(f"<tr><td>{escape(title)}</td>" + "".join(f"<td>{cell}</td>" for cell in cells) + "</tr>")
+def make_table_html(sides: Sequence[Side], tables: Sequence[Sequence[FigureRow]], days: int, remarks: Sequence[str] = ()) -> str:
+    """Return the tables of figures as HTML, with remarks below them: one table for two roads, or one of several roads and one of their
+    differences."""
+    has_own_table = len(sides) > 2
+    heads = [[side.name, "±"] for side in sides]
+    differences = [[side.name if has_own_table else "difference", "±", ""] for side in sides[1:]]
+    lines, others = [], []
+    for place, row in enumerate(tables[0]):
+        means = list_means(tables, place, len(sides))
+        if row.figure.key in ("lost", "lost at"):
+            # By chance more cars may enter than the demand: none is lost then.
+            means = [mean._replace(mean=max(mean.mean, 0.0)) if mean.mean is not None else mean for mean in means]
+        cells = [format_fixed(value, row.figure.digits, ",") for mean in means for value in mean]
+        more = [cell for rows in tables[:len(sides) - 1] for one in [rows[place]] for cell in (
+            *(format_fixed(value, row.figure.digits, ",") for value in one.difference), mark_row(one, has_own_table))]
+        title = row.figure.title if has_own_table else mark_title(row)
+        if has_own_table:
+            others.append([row.figure.title, *more])
+        if not has_own_table or any(mean.mean is not None for mean in means):
+            lines.append([title, *cells, *([] if has_own_table else more)])
     said = ("± is half the 95 % interval of the mean (Student's t), in the unit of its row; for the difference it is paired by day. "
             f"“{CHANCE}”: the interval of the difference contains 0; a figure that does not differ on any day has no remark. A speed is the mean of the days' time-mean speeds." if days > 1
             else "One day has no interval.")
-    words = [escape(one) for one in sorted({row.words for row in rows if row.words})]
-    return (f'<table><thead><tr><th>{f"mean of {days} days" if days > 1 else "one day"}</th>{head}</tr></thead><tbody>{"".join(lines)}</tbody>'
-            f'</table><p class="note">{" ".join([said, *words])}</p>')
+    words = [escape(one) for one in [*sorted({row.words for rows in tables for row in rows if row.words}), *remarks]]
+    mean = f"mean of {days} days" if days > 1 else "one day"
+    head = [mean, *(cell for one in heads for cell in one), *([] if has_own_table else [cell for one in differences for cell in one])]
+    second = make_grid_html([f"difference from {sides[0].name}", *(cell for one in differences for cell in one)], others) if has_own_table else ""
+    return f'{make_grid_html(head, lines)}{second}<p class="note">{" ".join([said, *words])}</p>'
+
+
+def mark_title(row: FigureRow) -> str:
+    """Return the title of a row, with the remark that it is a bound."""
+    return f"{row.figure.title} ({row.bound})" if row.bound else row.figure.title
+
+
+def mark_row(row: FigureRow, has_bound: bool) -> str:
+    """Return the remarks on a difference: that it may be chance, and with `has_bound`, that it is a bound."""
+    return ", ".join(filter(None, [row.bound if has_bound else "", CHANCE * bool(row.may_be_chance)]))
+
+
+def make_grid_html(head: Sequence[str], lines: Sequence[Sequence[str]]) -> str:
+    """Return a table as HTML."""
+    return ("<table><thead><tr>" + "".join(f"<th>{escape(cell)}</th>" for cell in head) + "</tr></thead><tbody>"
+            + "".join("<tr>" + "".join(f"<td>{escape(cell)}</td>" for cell in line) + "</tr>" for line in lines) + "</tbody></table>")
 
 
 def make_fields_html(contents: Contents) -> str:
@@ -105,7 +136,7 @@ def make_fields_html(contents: Contents) -> str:
 def make_charts_html(contents: Contents) -> str:
     """Return flow and speed by time at each detector."""
     (first, last), parts = contents.window, []
-    colours = [BEFORE, AFTER] if len(contents.sides) == 2 else [AFTER]
+    colours = ROADS if len(contents.sides) > 1 else [AFTER]
     for detector, cell in enumerate(contents.detectors):
         flow = Chart(f"Flow, km {format_km(cell)}", "cars/h", contents.clock, first, last)
         speed = Chart(f"Time-mean speed, km {format_km(cell)}", "km/h", contents.clock, first, last, top=135.0)
@@ -141,7 +172,8 @@ def draw_demands(sides: Sequence[tuple[str, Sequence[tuple[str, Rates]]]], clock
                 begin, until = max(step, window.first), min(end, window.last)
                 points += [(begin, cars), (until, cars)] if begin < until else []
             changes = changes or len({cars for _, cars in points}) > 1
-            chart.add(Line(f"{side}: {name}" if side else name, points, INLETS[inlet % len(INLETS)], is_dashed=place < len(sides) - 1))
+            colour = INLETS[(inlet + (place * len(inlets) if len(sides) > 2 else 0)) % len(INLETS)]
+            chart.add(Line(f"{side}: {name}" if side else name, points, colour, is_dashed=place < len(sides) - 1))
     return chart.draw(900, 160) if changes else ""
 
 
@@ -160,7 +192,7 @@ def format_page(contents: Contents) -> str:
         f"<h2>Flow and speed by time, each {PERIOD // 60} minutes, {f'mean of {days} days' if days > 1 else 'one day'}</h2>"
         + (NO_BANDS if 1 < days < FEW_DAYS else NO_SPEED_BANDS if days >= FEW_DAYS else "") + make_charts_html(contents)
         if contents.detectors else "",
-        f"<h2>Figures, {times}</h2>{make_table_html(contents.sides, contents.rows, days)}",
+        f"<h2>Figures, {times}</h2>{make_table_html(contents.sides, [contents.rows, *contents.others], days, contents.remarks)}",
         contents.more, "<h2>What the model does not have</h2>" + make_list_html(MISSING),
         f'<p class="note">Seeds {seeds}; program {escape(describe_program())}. Delay is the time that the cars of both roads spend on the road '
         "in this window, after minus before; lost demand is demand minus admitted cars, and varies by chance by "

@@ -67,13 +67,17 @@ class Controller:
         raise NotImplementedError
 
 
-def run_control(lab: RoadLab, at: str, controllers: Sequence[Controller], first: int, last: int, period: int = PERIOD) -> None:
-    """Let controllers decide in the steps `first` to `last`, and simulate the replica up to there. The steps may be in the past."""
+def run_control(lab: RoadLab, at: str, controllers: Sequence[Controller], first: int, last: int, period: int = PERIOD,
+                advance: Callable[[int], object] | None = None) -> None:
+    """Let controllers decide in the steps `first` to `last`, and simulate the replica up to there. The steps may be in the past.
+
+    advance: simulates the replica up to a step; by default the lab does."""
+    advance = advance or (lambda step: lab.advance(at, step))
     owned: dict[Object, int] = {}
     scenario = lab.scenario(at)
-    lab.advance(at, first)
+    advance(first)
     for step in range(first, last, period):
-        lab.advance(at, step)
+        advance(step)
         view = View(lab, at, max(step - period, first), step)
         for controller in controllers:
             for kind, index, value in controller.decide(view):
@@ -85,7 +89,7 @@ def run_control(lab: RoadLab, at: str, controllers: Sequence[Controller], first:
                 if owned.get(thing) != value:
                     lab.edit(at, thing, step, value)
                     owned[thing] = value
-    lab.advance(at, last)
+    advance(last)
 
 
 class RampMeter(Controller):

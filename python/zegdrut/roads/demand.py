@@ -23,6 +23,7 @@ these are more. `recipes/measured/by_hand` checks it with runs of other seeds.
 """
 from __future__ import annotations
 
+import contextvars
 import dataclasses
 import functools
 import math
@@ -146,8 +147,7 @@ def simulate_flow(inlets: tuple[Inlet, ...], drivers: Drivers, effort: Effort) -
 
     def of_seed(seed: int) -> int:
         return count_admitted(inlets, drivers, bounds, seed)[0][-1]
-    with ThreadPoolExecutor(thread_count()) as pool:
-        cars = list(pool.map(of_seed, range(FIRST_SEED, FIRST_SEED + effort.seeds)))
+    cars = run_in_threads(of_seed, range(FIRST_SEED, FIRST_SEED + effort.seeds))
     return sum(cars) / len(cars) / effort.steps
 
 
@@ -162,8 +162,7 @@ def simulate_hindrance(inlets: tuple[Inlet, ...], drivers: Drivers, effort: Effo
         with open_road(inlets, drivers, [], seed) as lab:
             lab.command("advance", "A", to=WARM_UP + steps)
             return sum(row[inlets[-1].cell] == "." for row in lab.diagram("A", WARM_UP, WARM_UP + steps - 1))
-    with ThreadPoolExecutor(thread_count()) as pool:
-        free = sum(pool.map(of_seed, range(FIRST_SEED, FIRST_SEED + effort.seeds)))
+    free = sum(run_in_threads(of_seed, range(FIRST_SEED, FIRST_SEED + effort.seeds)))
     return steps * effort.seeds / free if free else math.inf
 
 
@@ -185,6 +184,13 @@ MOST_THREADS = 64
 def thread_count() -> int:
     """Return the number of processors that this process may use, at most MOST_THREADS."""
     return min(len(os.sched_getaffinity(0)), MOST_THREADS)
+
+
+def run_in_threads(function: Callable[[int], int], seeds: Sequence[int]) -> list[int]:
+    """Return what a function returns for each seed. The threads use the same program as this one."""
+    context = contextvars.copy_context()
+    with ThreadPoolExecutor(thread_count()) as pool:
+        return list(pool.map(lambda seed: context.copy().run(function, seed), seeds))
 
 
 # Interpolation

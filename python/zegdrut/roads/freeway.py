@@ -7,10 +7,11 @@ from dataclasses import dataclass, field
 from typing import Callable, Iterator, NamedTuple, Optional, Sequence
 
 from ..program.errors import Fault as Fault
+from .capacity import LIMIT, describe_capacity, find_capacity
 from .clock import Clock
 from .demand import BeyondCapacity, Drivers, Effort, Rates, convert_demands, measure_admission
 from .freeway_files import Demand, Figures as Figures, Section as Section, Stalled as Stalled
-from .units import ALWAYS, CELLS_A_KM, KMH, to_cells, to_km, to_limit, to_chance, to_steps
+from .units import ALWAYS, CELLS_A_KM, KMH, format_distance, to_cells, to_km, to_limit, to_chance, to_steps
 
 CELLS = range(8, 8_193)
 """The allowed numbers of cells of a road."""
@@ -83,7 +84,7 @@ def measure_chances(road: Road, progress: Callable[[int], None] = lambda inlet: 
     try:
         return convert_demands(cells, demands, road.drivers, progress=progress)
     except BeyondCapacity as fault:
-        raise Fault(f"a demand of {fault.demand:g} cars per hour at km {to_km(cells[fault.inlet]):g} exceeds the capacity of the inlet, "
+        raise Fault(f"a demand of {fault.demand:g} cars per hour at km {format_distance(to_km(cells[fault.inlet]))} exceeds the capacity of the inlet, "
                     f"{fault.capacity:.0f} ({fault.drivers}): ask for less") from None
 
 
@@ -170,6 +171,7 @@ def make_checked_road(figures: Figures) -> Road:
     for km, demand in sorted(figures.ramps, key=lambda ramp: ramp[0]):
         road.inlets.append((find_cell(notes, "the ramp at", km, length), to_rates(demand)))
     road.detectors = [find_cell(notes, "the detector at", km, length) for km in figures.detectors]
+    figures = replace_capacities(notes, figures, road)
     road.edits = [*make_section_edits(notes, figures, road), *make_stalled_edits(notes, figures, road)]
     return road
 
@@ -179,7 +181,7 @@ def find_entry(notes: list[str], km: float, road: Road) -> int:
     if km > to_km(road.length) + 1e-9:
         raise Fault(f"entry {km:g} km is longer than the road of {to_km(road.length):g} km")
     zones = max(-(-find_bound(km * CELLS_A_KM, road.zone, road.length) // road.zone), 1)
-    notes.append(f"nobody is slowed on the first {to_km(min(zones * road.zone, road.length)):.6g} km (`entry`), so that the inlet admits "
+    notes.append(f"nobody is slowed on the first {format_distance(to_km(min(zones * road.zone, road.length)))} km (`entry`), so that the inlet admits "
                  "up to 1,800 cars per hour")
     return zones
 
@@ -187,7 +189,7 @@ def find_entry(notes: list[str], km: float, road: Road) -> int:
 def note_if_rounded(notes: list[str], what: str, asked: float, unit: str, taken: int, size: Callable[[int], float]) -> int:
     """Return the number of cells or steps that is used, and add a note if it is not exactly the requested size."""
     if abs(size(taken) - asked) > 1e-9:
-        notes.append(f"{what} {asked:g} {unit}: rounded to {size(taken):.6g} {unit}")
+        notes.append(f"{what} {asked:g} {unit}: rounded to {format_distance(size(taken))} {unit}")
     return taken
 
 
@@ -252,6 +254,28 @@ def find_covering_zones(section: Section, width: int, length: int) -> range:
     return range(first, max(last, first + 1))
 
 
+def replace_capacities(notes: list[str], figures: Figures, road: Road) -> Figures:
+    """Return the figures with the limit and the drivers that leave the cars per hour of sections with a capacity, and add a note on each.
+
+    Takes some seconds for each. Fault: a section has a slowing chance, too, or no drivers leave this capacity."""
+    found = []
+    for section in figures.sections:
+        if section.capacity is not None:
+            name = f"the section from km {format_distance(section.first)} to {format_distance(section.last)}"
+            if section.slowing is not None or section.start is not None:
+                raise Fault(f"{name}: a capacity stands for a slowing chance and a slow-to-start chance: leave these out, or the capacity")
+            zones = find_zones(section, road)
+            cells = min(zones.stop * road.zone, road.length) - zones.start * road.zone
+            try:
+                works = find_capacity(section.capacity, LIMIT if section.limit is None else section.limit, road.drivers, cells)
+            except Fault as fault:
+                raise Fault(f"{name}: {fault}") from None
+            notes.append(f"{name}: {describe_capacity(works)}")
+            section = section._replace(limit=works.limit * KMH, slowing=works.slowing / ALWAYS, start=works.start / ALWAYS, capacity=None)
+        found.append(section)
+    return dataclasses.replace(figures, sections=found)
+
+
 def make_section_edits(notes: list[str], figures: Figures, road: Road) -> Iterator[RoadEdit]:
     """Yield an edit for each change of a value of a zone that sections cover."""
     covered = {}
@@ -264,7 +288,7 @@ def make_section_edits(notes: list[str], figures: Figures, road: Road) -> Iterat
             raise Fault(f"{name}, {' to '.join(times)}: it must begin before it ends, on the road and in the run")
         first, last = to_km(zones[0] * road.zone), to_km(min((zones[-1] + 1) * road.zone, road.length))
         if abs(first - section.first) > 1e-9 or abs(last - section.last) > 1e-9:
-            notes.append(f"{name}: rounded to km {first:.6g} to {last:.6g}, because zones are {to_km(road.zone):.6g} km wide")
+            notes.append(f"{name}: rounded to km {format_distance(first)} to {format_distance(last)}, because zones are {format_distance(to_km(road.zone))} km wide")
         if section.limit is not None:
             find_limit(notes, f"{name}: the limit", section.limit)
     for zone in range(road.zones):
@@ -320,7 +344,7 @@ def make_shapes(figures: Figures, road: Road, chances: list[list[tuple[int, int]
             yield "inflow", inlet, inlet, step, changes[place][0] if place < len(changes) else None, chance
     if road.start is not None:
         yield "start", road.entry, road.zones - 1, 0, None, road.start
-    for section in figures.sections:
+    for section in replace_capacities([], figures, road).sections:
         zones = find_zones(section, road)
         given = {"limit": (section.limit, to_limit), "slow": (section.slowing, to_chance), "start": (section.start, to_chance)}
         for kind, (value, made) in given.items():
@@ -338,13 +362,17 @@ Change = tuple[str, int, int, Optional[int]]
 
 def make_roads(figures: Figures, then: Figures | None) -> tuple[Road, Road | None]:
     """Return the road as planned and as it turned out, with the zones that fit the sections of both best."""
-    if then is None:
-        return make_road(figures), None
-    if figures.zone is None:
-        both = dataclasses.replace(figures, sections=[*figures.sections, *then.sections])
-        zone = to_km(choose_zone_width([], both, to_cells(figures.length))) if to_cells(figures.length) in CELLS else None
-        figures, then = (dataclasses.replace(one, zone=zone) for one in (figures, then))
-    return make_road(figures), make_road(then)
+    road, *others = make_all_roads([figures] if then is None else [figures, then])
+    return road, others[0] if others else None
+
+
+def make_all_roads(figures: Sequence[Figures]) -> list[Road]:
+    """Return roads of one length with the zones that fit the sections of all best, unless a file sets their width."""
+    first = figures[0]
+    if len(figures) > 1 and all(one.zone is None for one in figures) and to_cells(first.length) in CELLS:
+        every = dataclasses.replace(first, sections=[section for one in figures for section in one.sections])
+        figures = [dataclasses.replace(one, zone=to_km(choose_zone_width([], every, to_cells(first.length)))) for one in figures]
+    return list(map(make_road, figures))
 
 
 def find_changes(road: Road, then: Road) -> list[Change]:
@@ -369,10 +397,10 @@ def describe_change(road: Road, kind: str, indexes: range, step: int, value: int
     since = f"from {road.format_time(step)} (step {step}) on"
     if kind == "block":
         said = f"closure {since} withdrawn" if value is None else f"{'closed' if value else 'open'} {since}"
-        return f"km {to_km(indexes[0]):.6g} (cell {indexes[0]}): {said}"
+        return f"km {format_distance(to_km(indexes[0]))} (cell {indexes[0]}): {said}"
     first, last = indexes[0] * road.zone, min((indexes[-1] + 1) * road.zone, road.length)
     zones = f"zone {indexes[0]}" if len(indexes) == 1 else f"zones {indexes[0]}-{indexes[-1]}"
-    where = f"km {to_km(first):.6g} to {to_km(last):.6g} ({zones}, cells {first} to {last - 1})"
+    where = f"km {format_distance(to_km(first))} to {format_distance(to_km(last))} ({zones}, cells {first} to {last - 1})"
     name = {"limit": "limit", "slow": "slowing", "start": "slowing of standing cars"}[kind]
     if value is None:
         return f"{where}: {name} {since} withdrawn"

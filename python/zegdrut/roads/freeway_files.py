@@ -8,19 +8,20 @@ import json
 import math
 from dataclasses import dataclass, field
 from pathlib import Path
-from typing import NamedTuple, TypeGuard, TypeVar, Union, cast
+from typing import NamedTuple, Sequence, TypeGuard, TypeVar, Union, cast
 
 from ..program.errors import Fault
 from ..program.wire import Json
-from .clock import InvalidTime, Clock
+from .clock import DAY, InvalidTime, Clock
 from .units import to_steps
 
 
 class Section(NamedTuple):
     """A part of the road with its own limit or drivers, from `first` to `last` km and from minute `begin` to `end`.
 
-    limit: km/h. slowing: the slowing chance, from 0 to 1. start: the slowing chance of standing cars. None leaves a value as it
-    is. If two sections overlap, the later one in the list applies."""
+    limit: km/h. slowing: the slowing chance, from 0 to 1. start: the slowing chance of standing cars. capacity: the cars per hour that works
+    leave; drivers that leave them replace `slowing` and `start` (`capacity.find_capacity`). None leaves a value as it is. If two sections
+    overlap, the later one in the list applies."""
 
     first: float
     last: float
@@ -29,6 +30,7 @@ class Section(NamedTuple):
     limit: float | None = None
     slowing: float | None = None
     start: float | None = None
+    capacity: float | None = None
 
 
 class Stalled(NamedTuple):
@@ -199,23 +201,28 @@ class Reader:
         elif isinstance(value, dict):
             pairs = self.read_profile(name, value)
         elif isinstance(value, list) and value:
-            pairs = []
-            for pair in value:
-                if not isinstance(pair, list) or len(pair) != 2:
-                    raise self.fault(name, value, DEMAND)
-                time, cars = pair
-                minute = self.clock.to_step(time, name) / 60
-                if not 0 <= minute < self.minutes:
-                    raise self.fault(name, time, f"in the run, which lasts from {self.clock.to_text(0)} to {self.clock.to_text(to_steps(self.minutes))}"
-                                     + ' (is "begin" missing?)' * (self.base.begin is None))
-                pairs.append((minute, self.rate(name, cars)))
+            given = [pair for pair in value if isinstance(pair, list) and len(pair) == 2]
+            if len(given) < len(value):
+                raise self.fault(name, value, DEMAND)
+            minutes = self.read_minutes(name, [time for time, _ in given])
+            pairs = [(minute, self.rate(name, cars)) for minute, (_, cars) in zip(minutes, given)]
         else:
             raise self.fault(name, value, DEMAND)
         for place, (minute, cars_per_hour) in enumerate(pairs):
             self.rate(name, cars_per_hour)
             if place and minute <= pairs[place - 1][0]:
                 raise self.fault(name, value, f"in rising order of time: {self.clock.to_text(to_steps(minute))} appears twice or is out of order")
-        return pairs
+        return cut_profile(pairs, self.minutes)
+
+    def read_minutes(self, name: str, times: Sequence[Json]) -> list[float]:
+        """Read the times of a profile. They may be before the run or after it. Fault: none is in the run."""
+        minutes = [self.clock.to_step(time, name) / 60 for time in times]
+        if not any(0 <= minute < self.minutes for minute in minutes):
+            raise self.fault(name, times[0], f"in the run, which lasts from {self.clock.to_text(0)} to {self.clock.to_text(to_steps(self.minutes))}"
+                             + ' (is "begin" missing?)' * (self.base.begin is None))
+        # The clock puts a time before the beginning on the next day, after the times that follow it.
+        before = max((place for place, (one, following) in enumerate(zip(minutes, minutes[1:]), 1) if one >= self.minutes and following < one), default=0)
+        return [minute - DAY / 60 if place < before else minute for place, minute in enumerate(minutes)]
 
     def rate(self, name: str, value: Json) -> float:
         """Read cars per hour. Fault: it is not a number, or negative."""
@@ -262,6 +269,12 @@ class Reader:
         except ValueError:
             return self.clock.to_step(float(text) if text.replace(".", "", 1).isdigit() else text, name) / 60
         return self.clock.find_step(moment) / 60
+
+
+def cut_profile(pairs: list[tuple[float, float]], minutes: float) -> list[tuple[float, float]]:
+    """Return what a profile has in a run of some minutes. The last demand before the run is that of its beginning."""
+    early = [cars for minute, cars in pairs if minute <= 0]
+    return [*([(0.0, early[-1])] if early else []), *((minute, cars) for minute, cars in pairs if 0 < minute < minutes)]
 
 
 def write_road(path: Path, source: Path, figures: Figures) -> None:

@@ -1,6 +1,7 @@
 """Convert between an engineer's units and cells, steps and chances. By default a cell is 7.5 m and a step 1 s."""
 from __future__ import annotations
 
+import math
 from typing import NamedTuple
 
 METRES, HOUR = 7.5, 3_600
@@ -75,6 +76,11 @@ class Units(NamedTuple):
 def format_km(cell: float) -> str:
     """Return the km at which a cell begins, up to four decimals: the only form of a place in tables and pictures. A cell is 0.0075 km."""
     return format_plain(to_km(cell))
+
+
+def format_distance(km: float) -> str:
+    """Return the km of a sentence, to the nearest metre. Half a metre is rounded up."""
+    return f"{math.floor(1_000 * km + 0.5 + 1e-6) / 1_000:.3f}".rstrip("0").rstrip(".")
 
 
 def count_things(number: int, thing: str, things: str | None = None) -> str:

@@ -10,15 +10,18 @@ All of this is done by edits, to the step.
 from __future__ import annotations
 
 import dataclasses
+from collections import Counter
 from dataclasses import dataclass, field
+from itertools import accumulate
 from typing import Mapping, Sequence
 
+from ..figures.lost import LEAST_AT_RAMP
 from ..figures.trips import INLETS, Trips, entry_inlet, entry_step
 from ..program.lab import RoadLab
 from ..program.records import Edit, Object
 from ..program.rows import FASTEST
 from ..program.scripts import Script
-from ..program.wire import Fields
+from ..program.wire import Fields, PlanLine
 from .freeway import MOST_ZONES, Figures, sum_misfit
 from .units import ALWAYS, to_cells
 
@@ -28,11 +31,6 @@ FREE_ROAD = 250
 """The cells of a free road on which the arrivals of the main inlet are found."""
 LONGEST_ZONE = 200
 """The first zone admits a queue only if it has at most these cells (1.5 km)."""
-LEAST_AT_RAMP = 3
-"""With fewer missing cars at a ramp nobody waits: the gaps between cars of the main road differ by chance."""
-
-MAIN = 0
-"""The index of the main inlet of a freeway."""
 
 Arrivals = Mapping[int, Sequence[int]]
 """The steps in which cars arrive, by the inlet's index."""
@@ -63,24 +61,41 @@ class Timeline:
 
     def __init__(self, lab: RoadLab, at: str, thing: Object, edits: Sequence[Edit], default: int) -> None:
         self.lab, self.at, self.thing = lab, at, thing
-        self.values = sorted({0: default, **{edit.step: edit.value for edit in edits
-                                             if tuple(edit.object) == thing and edit.value is not None}}.items())
+        self.edited = {edit.step: edit.value for edit in edits if tuple(edit.object) == thing and edit.value is not None}
+        self.values = sorted({0: default, **self.edited}.items())
+        self.changed: set[int] = set()
 
     def put(self, step: int, held: int | None) -> None:
         """Hold a value from a step on, or return to the values of the road if `held` is None."""
         value = [value for date, value in self.values if date <= step][-1]
         for date, value in [(step, value), *((date, value) for date, value in self.values if date > step)]:
             self.lab.edit(self.at, self.thing, date, value if held is None else held)
+            self.changed.add(date)
+
+    def withdraw(self) -> None:
+        """Withdraw all values that were put."""
+        for date in sorted(self.changed):
+            if date in self.edited:
+                self.lab.edit(self.at, self.thing, date, self.edited[date])
+            else:
+                self.lab.withdraw(self.at, self.thing, date)
+        self.changed.clear()
+
+
+def find_main(plan: PlanLine) -> int:
+    """Return the index of the main inlet, which is the one farthest upstream. The others are ramps."""
+    return min(range(len(plan["inlets"])), key=lambda inlet: int(plan["inlets"][inlet][0]))
 
 
 def make_timelines(lab: RoadLab, at: str, inlet: int) -> list[tuple[Timeline, int]]:
     """Return what a queue before an inlet changes, with the values that it holds."""
     plan, edits = lab.plan, lab.scenario(at)
     found = [(Timeline(lab, at, ("inflow", inlet), edits, plan["inlets"][inlet][1]), ALWAYS)]
-    if inlet == MAIN and plan["zone"] <= LONGEST_ZONE:
-        objects: tuple[Object, Object] = ("slow", 0), ("start", 0)
-        slow, start = (Timeline(lab, at, thing, edits, plan["zones"][0][1]) for thing in objects)
-        if not any(tuple(edit.object) == ("start", 0) for edit in edits):
+    if inlet == find_main(plan) and plan["zone"] <= LONGEST_ZONE:
+        zone = int(plan["inlets"][inlet][0]) // plan["zone"]
+        objects: tuple[Object, Object] = ("slow", zone), ("start", zone)
+        slow, start = (Timeline(lab, at, thing, edits, plan["zones"][zone][1]) for thing in objects)
+        if not any(tuple(edit.object) == ("start", zone) for edit in edits):
             start.values = slow.values  # (standing cars are slowed as moving ones are)
         found += [(one, 0) for one in (slow, start) if any(value for _, value in one.values)]
     return found
@@ -105,25 +120,43 @@ def find_entries(lab: RoadLab, at: str, inlet: int, first: int, last: int) -> li
     return sorted(entry_step(number) for number in seen if entry_inlet(number) == inlet and entry_step(number) >= first)
 
 
+class Queues:
+    """The queues before the inlets of `arrivals` while the replica `at` is simulated, from step 0 on."""
+
+    def __init__(self, lab: RoadLab, at: str, arrivals: Arrivals) -> None:
+        self.lab, self.at, self.step = lab, at, 0
+        self.of_inlet = {inlet: Queue() for inlet in arrivals}
+        self._timelines = {inlet: make_timelines(lab, at, inlet) for inlet in arrivals}
+        self._arrivals = {inlet: frozenset(steps) for inlet, steps in arrivals.items()}
+        self._main = find_main(lab.plan)
+
+    def advance(self, last: int) -> None:
+        """Simulate the replica up to step `last`, and let cars wait."""
+        while self.step < last:
+            first, end = self.step, min(self.step + PIECE, last)
+            self.lab.advance(self.at, end)
+            entered = {inlet: frozenset(find_entries(self.lab, self.at, inlet, first, end)) for inlet in self.of_inlet}
+            changed: list[int] = []
+            while self.step < end and not changed:
+                changed = [inlet for inlet, queue in self.of_inlet.items() if queue.count(
+                    self.step in self._arrivals[inlet], self.step in entered[inlet], 1 if inlet == self._main else LEAST_AT_RAMP)]
+                self.step += 1
+            for inlet in changed:
+                for timeline, held in self._timelines[inlet]:
+                    timeline.put(self.step, held if self.of_inlet[inlet].is_open else None)
+
+    def withdraw(self) -> None:
+        """Withdraw what the queues changed, so that the road has its own settings again."""
+        for timelines in self._timelines.values():
+            for timeline, _ in timelines:
+                timeline.withdraw()
+
+
 def let_wait(lab: RoadLab, at: str, arrivals: Arrivals, last: int) -> dict[int, Queue]:
     """Run the replica `at` up to step `last`, and let cars wait before the inlets of `arrivals`. Return the queue of each."""
-    queues = {inlet: Queue() for inlet in arrivals}
-    timelines = {inlet: make_timelines(lab, at, inlet) for inlet in arrivals}
-    came = {inlet: frozenset(steps) for inlet, steps in arrivals.items()}
-    first = 0
-    while first < last:
-        end = min(first + PIECE, last)
-        lab.advance(at, end)
-        entered = {inlet: frozenset(find_entries(lab, at, inlet, first, end)) for inlet in arrivals}
-        changed: list[int] = []
-        while first < end and not changed:
-            changed = [inlet for inlet, queue in queues.items()
-                       if queue.count(first in came[inlet], first in entered[inlet], 1 if inlet == MAIN else LEAST_AT_RAMP)]
-            first += 1
-        for inlet in changed:
-            for timeline, held in timelines[inlet]:
-                timeline.put(first, held if queues[inlet].is_open else None)
-    return queues
+    queues = Queues(lab, at, arrivals)
+    queues.advance(last)
+    return queues.of_inlet
 
 
 def ask_edits(lab: RoadLab, commands: Sequence[Fields]) -> None:
@@ -137,8 +170,9 @@ def find_arrivals(script: Script, free: Script, last: int) -> dict[int, list[int
     """Return the arrivals at the inlets of a road. `free` is its script without works.
 
     Those at the main inlet are the entries on a short free road, those at a ramp the entries on the road without works, if it has works."""
-    found = {MAIN: find_main_arrivals(free, last)}
-    ramps = [inlet for inlet in range(len(script.plan["inlets"])) if inlet != MAIN]
+    main = find_main(script.plan)
+    found = {main: find_main_arrivals(free, last)}
+    ramps = [inlet for inlet in range(len(script.plan["inlets"])) if inlet != main]
     if ramps and script.commands != free.commands:
         with RoadLab(free.plan) as lab:
             ask_edits(lab, free.commands)
@@ -149,41 +183,50 @@ def find_arrivals(script: Script, free: Script, last: int) -> dict[int, list[int
 
 def find_main_arrivals(free: Script, last: int) -> list[int]:
     """Return the entries at the main inlet on a free road with the same first zones."""
-    plan = free.plan.copy()
-    zones = -(-FREE_ROAD // plan["zone"])
-    plan.update({"length": FREE_ROAD, "zone": min(plan["zone"], FREE_ROAD), "inlets": plan["inlets"][:1], "detectors": [],
+    plan, main = free.plan.copy(), find_main(free.plan)
+    cell, chance = plan["inlets"][main]
+    length = min(cell + FREE_ROAD, MOST_ZONES * plan["zone"])
+    zones = -(-length // plan["zone"])
+    shut = [[cell + 1 + inlet, 0] for inlet in range(main)]  # (the random words of an inlet belong to its index)
+    plan.update({"length": length, "zone": min(plan["zone"], length), "inlets": [*shut, [cell, chance]], "detectors": [],
                  "zones": [plan["zones"][min(zone, len(plan["zones"]) - 1)] for zone in range(zones)]})
     with RoadLab(plan) as lab:
-        ask_edits(lab, [line for line in free.commands if is_edit_there(line, zones)])
+        ask_edits(lab, [line for line in free.commands if is_edit_there(line, main, zones)])
         lab.advance("A", last)
-        return find_entries(lab, "A", MAIN, 0, last)
+        return find_entries(lab, "A", main, 0, last)
 
 
-def is_edit_there(line: Fields, zones: int) -> bool:
-    """Return whether a line edits the main inlet or one of the first zones."""
+def is_edit_there(line: Fields, inlet: int, zones: int) -> bool:
+    """Return whether a line edits an inlet or one of the first zones."""
     edit = line.get("edit")
     if not isinstance(edit, dict):
         return False
     kind, index = edit["object"]
-    return bool(index < (1 if kind == "inflow" else zones if kind in ("limit", "slow", "start") else 0))
+    return bool(index == inlet if kind == "inflow" else index < zones and kind in ("limit", "slow", "start"))
 
 
 def name_by_arrival(trips: Trips, arrivals: Arrivals, queues: Mapping[int, Queue]) -> Trips:
-    """Return trips whose cars have the numbers of their arrivals, if cars waited: the first car that entered is the first one that arrived,
-    and so on. Cars that still wait are on the road.
+    """Number the cars of an inlet by their arrivals if cars waited there. The first car that entered is the first that arrived, and so on.
 
-    So a car is the same car on two roads even if it waited, and its time includes its waiting."""
+    The trips must begin at step 0. Waiting cars count as being on the road. So a car has one number on two roads even if it waited, and
+    its travel time includes the wait."""
     names: dict[int, int] = {}
-    left = dict(trips.left)
+    still: list[int] = []
     for inlet, queue in queues.items():
         if any(queue.waiting):
             arrived = [step * INLETS + inlet for step in arrivals[inlet] if step < trips.horizon]
             entered = sorted(number for number in trips.left if entry_inlet(number) == inlet)
+            # Cars that entered although nobody arrived keep their numbers.
+            more = max(len(entered) - len(arrived), 0)
+            others = set([number for number in entered if number not in set(arrived)][-more:] if more else [])
+            entered = [number for number in entered if number not in others]
             names.update(zip(entered, arrived))
-            left.update(dict.fromkeys(arrived[len(entered):]))
-    if not names:
+            still += arrived[len(entered):]
+    if not names and not still:
         return trips
-    waiting = left.keys() - trips.left.keys()
-    return dataclasses.replace(trips, left={**{names.get(number, number): step for number, step in trips.left.items()},
-                                            **dict.fromkeys(waiting)},
-                               passed=[{names.get(number, number): step for number, step in steps.items()} for steps in trips.passed])
+    changes = Counter(entry_step(number) + 1 for number in (*names.values(), *still))
+    changes.subtract(Counter(entry_step(number) + 1 for number in names))
+    more_cars = accumulate(changes[trips.first + row] for row in range(len(trips.cars)))
+    return dataclasses.replace(trips, left={**{names.get(number, number): step for number, step in trips.left.items()}, **dict.fromkeys(still)},
+                               passed=[{names.get(number, number): step for number, step in steps.items()} for steps in trips.passed],
+                               cars=[cars + more for cars, more in zip(trips.cars, more_cars)])

@@ -1,11 +1,13 @@
 """Write beside a table what made it, and read it. For `roads.csv` this is `roads.csv.json`.
 
-Its fields: the model and the measurement as a command names them (null if it cannot), the points with their plans, the seeds, the part;
-for each column its kind, unit and identifier; the mark with all its parts; the program, this package, Python, the host, and the times.
+Its fields: the model and the measurement as a command names them (null if it cannot); all points of the table with their plans and the
+seeds of each, in the order of the rows; for each column its kind, unit and identifier; the mark with all its parts; the program, this
+package, Python, the host, and the times.
 """
 from __future__ import annotations
 
 import importlib.metadata
+import itertools
 import json
 import platform
 import socket
@@ -20,8 +22,9 @@ from ..program.programs import find_program, read_record
 from ..program.wire import Json, PlanLine
 from .marks import Mark
 from .results import Column, Value, make_identifier, replace_file
+from .runs import Run, list_points, list_run_points
 
-FORM = 1
+FORM = 2
 Named = Union[None, str, Dict[str, List[Union[int, List[int], None]]]]
 """A measurement: FROM:TO or FILE:NAME as in a command; {"flows": [first, to, cells]}; or null for one without a name."""
 
@@ -34,11 +37,10 @@ class About:
     model: str | None
     measure: Named
     points: list[dict[str, Value]]
-    seeds: list[int]
+    seeds: list[list[int]]
     mark: str
     parts: dict[str, str]
     plans: list[PlanLine | None] = field(default_factory=list)
-    part: list[int] = field(default_factory=lambda: [1, 1])
     version: str | None = None
     command: list[str] = field(default_factory=list)
     columns: dict[str, Column] = field(default_factory=dict)
@@ -49,6 +51,10 @@ class About:
     begun: str = ""
     ended: str | None = None
     form: int = FORM
+
+    def runs(self) -> list[Run]:
+        """Return the runs of the table, in the order of its rows."""
+        return [Run(point, seed) for point, seeds in zip(list_points(self.points), self.seeds) for seed in seeds]
 
     def write(self, out: Path) -> None:
         """Write the file beside a table."""
@@ -68,19 +74,21 @@ def read_about(path: Path) -> About:
     try:
         read = json.loads(path.read_text(encoding="utf-8"))
         if read["form"] != FORM:
-            raise Fault(f"{path} has form {read['form']}, and this version of zegdrut reads form {FORM}: use a later version")
+            other = "a later" if read["form"] > FORM else "an earlier"
+            raise Fault(f"{path} has form {read['form']}, and this version of zegdrut reads form {FORM}: use {other} version")
         read["columns"] = {name: Column(one["kind"], tuple(one.get("axes", ())), one["unit"]) for name, one in read["columns"].items()}
         return About(**read)
     except (ValueError, TypeError, KeyError):
         raise Fault(f"{path} does not say what made a table: name the file that a sweep wrote beside it") from None
 
 
-def describe_sweep(out: Path, model: str | None, measure: Named, points: Sequence[Mapping[str, Value]], seeds: Sequence[int], part: tuple[int, int],
-                   mark: Mark, version: str | None) -> About:
-    """Return what makes a table that begins now."""
+def describe_sweep(out: Path, model: str | None, measure: Named, listed: Sequence[Run], mark: Mark, version: str | None) -> About:
+    """Return what makes a table of these runs, which begins now. The runs of a point follow each other."""
     program = find_program()
     made = read_record(program)
-    return About(out.name, model, measure, [dict(point) for point in points], list(seeds), mark.text, mark.parts, part=list(part), version=version,
+    points = list_run_points(listed)
+    seeds = [[run.seed for run in runs] for _, runs in itertools.groupby(listed, lambda run: id(run.point))]
+    return About(out.name, model, measure, [dict(point) for point in points], seeds, mark.text, mark.parts, version=version,
                  command=list(sys.argv), program={} if made is None else dict(asdict(made)), zegdrut=package_version(),
                  python=platform.python_version(), host=socket.gethostname(), begun=now())
 

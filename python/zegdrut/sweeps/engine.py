@@ -1,46 +1,49 @@
-"""Run runs by an executor of `concurrent.futures`' form: of processes, Dask, MPI or joblib's loky.
+"""Run jobs, such as the runs of a sweep, by an executor of `concurrent.futures`' form: of processes, Dask, MPI or joblib's loky.
 
     with ProcessPoolExecutor() as executor:
         sweep(road, points, executor=executor)
     with dask.distributed.Client("tcp://HOST:8786") as client:
         sweep(road, points, executor=client.get_executor(), ship=True)
 
-Short runs are sent in batches. A batch that is lost (its worker died, or the scheduler was started again) is sent once more, a run at a
-time; what is lost then is a failure. Each run is in the table once, also if a scheduler repeats it.
+Short jobs are sent in batches. A batch that is lost (its worker died, or the scheduler was started again) is sent once more, a job at a
+time; what is lost then is a failure. Each job has one outcome, also if a scheduler repeats it.
 """
 from __future__ import annotations
 
 import contextlib
+import functools
 import inspect
 import io
 import pickle
 import platform
 import queue
 import types
+import warnings
 import zipfile
 from collections import Counter, deque
 from concurrent.futures import BrokenExecutor, CancelledError, Executor, Future, wait
 from pathlib import Path
-from typing import Callable, Generator, Iterator, Sequence
+from typing import Callable, Generator, Iterator, Sequence, TypeVar
 
 from ..program.errors import Fault
 from ..program.programs import NoProgram, describe_program, find_program, read_copy
 from .marks import PACKAGE, Reach, Unknown, is_installed_module, module_of, sum_package
-from .pool import Outcome
+from .pool import Outcome, run_in_parallel
 from .remote import NEEDS, RAN, Order, Ran, Reply, boot
-from .runs import Measure, Model, Run
 
-MOST_PENDING = 1_000
-"""The batches that are sent before the first of them has ended."""
+Job = TypeVar("Job")
+
 FIRST_PENDING = 8
-"""The same until a run has ended."""
+"""The batches that are sent before the first of them has ended."""
+PENDING = 4
+"""The batches that are sent for each worker that has replied."""
 LAST_REPLIES = 2.0
 """The seconds to wait for replies of workers that cannot run the sweep."""
 BATCH_SECONDS = 0.25
 """About how long a batch takes."""
 MOST_OF_BATCH = 100
 ATTEMPTS = 3
-"""How often a run is sent that was cancelled by the executor or lost."""
+"""How often a job is sent that was cancelled by the executor or lost."""
 
 
 class Boot:
@@ -59,28 +62,29 @@ def boot_source() -> str:
 
 
 class Engine:
-    """A sweep by an executor: which runs wait, which were sent, and what was shipped."""
+    """Jobs that an executor runs: which ones wait, which were sent, and what was shipped."""
 
-    def __init__(self, executor: Executor, model: Model, measure: Measure | None, listed: Sequence[Run], program: Path | str | None,
+    def __init__(self, executor: Executor, work: Callable[[Job], object], jobs: Sequence[Job], program: Path | str | None,
                  timeout: float | None, ship: bool) -> None:
-        self._executor, self._listed, self._ship = executor, listed, ship
+        self._executor, self._jobs, self._ship = executor, jobs, ship
         self._program = Path(program or find_program())
-        self._order = pickle.dumps(Order(pack(model, measure), describe_program(self._program), timeout))
-        self._waiting = deque(range(len(listed)))
-        self._alone: set[int] = set()  # runs that are sent in batches of one, because a batch of them was lost
-        self._held: list[int] = []  # runs that wait until a worker has got what it lacks
+        self._order = pickle.dumps(Order(pack(work), describe_program(self._program), timeout))
+        self._waiting = deque(range(len(jobs)))
+        self._alone: set[int] = set()  # jobs that are sent in batches of one, because a batch of them was lost
+        self._held: list[int] = []  # jobs that wait until a worker has got what it lacks
         self._sent: dict[Future[Reply], tuple[list[int], bool]] = {}
         self._done: queue.SimpleQueue[Future[Reply]] = queue.SimpleQueue()
         self._lost: Counter[int] = Counter()
+        self._workers: set[str] = set()
         self._size = 1
         self._shipping = 0
         self._seconds, self._ran = 0.0, 0
 
     def run(self) -> Generator[Outcome, None, None]:
-        """Run all. Yield each outcome as it comes. Fault: the executor is broken, or a worker cannot run the model."""
+        """Run all. Yield each outcome as it comes. Fault: the executor is broken, or a worker cannot run the work."""
         try:
             while self._waiting or self._sent or self._held:
-                while self._waiting and len(self._sent) < (MOST_PENDING if self._ran else FIRST_PENDING):
+                while self._waiting and len(self._sent) < max(FIRST_PENDING, PENDING * len(self._workers)):
                     self._send(self._take(), False)
                 if not self._sent:
                     self._send(self._held[:1], True)
@@ -102,9 +106,12 @@ class Engine:
     def _send(self, batch: list[int], with_all: bool) -> None:
         """Send a batch, with the package and the program if `with_all`."""
         package, program = (pack_package(), pickle.dumps(read_copy(self._program))) if with_all else (None, None)
-        runs = pickle.dumps([self._listed[number] for number in batch])
+        jobs = pickle.dumps([self._jobs[number] for number in batch])
         try:
-            future = self._executor.submit(Boot(), platform.python_version(), sum_package(), package, program, self._order, runs)
+            with warnings.catch_warnings():
+                if with_all:
+                    warnings.simplefilter("ignore", UserWarning)  # (Dask warns of a large argument)
+                future = self._executor.submit(Boot(), platform.python_version(), sum_package(), package, program, self._order, jobs)
         except (BrokenExecutor, RuntimeError) as fault:
             raise describe_broken(fault) from None
         self._shipping += with_all
@@ -122,6 +129,7 @@ class Engine:
             yield from self._repeat(batch, fault)
             return
         if kind == RAN:
+            self._workers.add(worker)
             assert isinstance(value, list)
             yield from self._outcomes(batch, value)
             self._release()
@@ -136,17 +144,17 @@ class Engine:
         for number, ran in zip(batch, found):
             self._seconds += ran.seconds
             self._ran += 1
-            yield Outcome(number, ran.figures, ran.error)
+            yield Outcome(number, ran.value, ran.error)
         mean = self._seconds / self._ran
         self._size = max(1, min(MOST_OF_BATCH, int(BATCH_SECONDS / max(mean, 1e-4)), len(self._waiting) // 16))
 
     def _release(self) -> None:
-        """Let the held runs wait for any worker."""
+        """Let the held jobs wait for any worker."""
         self._waiting.extendleft(reversed(self._held))
         self._held.clear()
 
     def _repeat(self, batch: list[int], fault: BaseException) -> Iterator[Outcome]:
-        """Send a lost batch once more, a run at a time. Yield the failures of runs that are lost too often."""
+        """Send a lost batch once more, a job at a time. Yield the failures of jobs that are lost too often."""
         for number in batch:
             self._lost[number] += 1 if len(batch) == 1 else 0
             if self._lost[number] >= (ATTEMPTS if isinstance(fault, CancelledError) else 1):
@@ -165,32 +173,33 @@ def describe_broken(fault: BaseException) -> Fault:
     return Fault(f"the executor is broken ({fault}): the finished runs are kept, and the same call with a new executor continues")
 
 
-def pack(model: Model, measure: Measure | None) -> bytes:
-    """Return a model and its measurement, pickled: with cloudpickle what the user has written, by value. Fault: they cannot be pickled."""
+def pack(work: Callable[[Job], object]) -> bytes:
+    """Return the function of a job, pickled: with cloudpickle what the user has written, by value. Fault: it cannot be pickled."""
     try:
         import cloudpickle
     except ImportError:
         try:
-            return pickle.dumps((model, measure))
+            return pickle.dumps(work)
         except Exception as fault:
             raise Fault(f"the model cannot be sent to workers ({fault}): install python3-cloudpickle, or define it in a module") from None
     with contextlib.ExitStack() as stack:
-        for module in list_modules(model, measure):
+        for module in list_modules(work):
             cloudpickle.register_pickle_by_value(module)
             stack.callback(cloudpickle.unregister_pickle_by_value, module)
         try:
-            packed: bytes = cloudpickle.dumps((model, measure))
+            packed: bytes = cloudpickle.dumps(work)
         except Exception as fault:
             raise Fault(f"the model cannot be sent to workers: {fault}") from None
     return packed
 
 
-def list_modules(model: Model, measure: Measure | None) -> list[types.ModuleType]:
-    """Return the modules of the user that a model and its measurement reach."""
+def list_modules(work: object) -> list[types.ModuleType]:
+    """Return the modules of the user that the function of a job reaches."""
+    parts = (work.func, *work.args) if isinstance(work, functools.partial) else (work,)
     reach = Reach()
     with contextlib.suppress(Unknown):
-        reach.parts(model, measure)
-    found = {module.__name__: module for one in (model, measure) if (module := module_of(one)) is not None}
+        reach.parts(parts, None)
+    found = {module.__name__: module for one in parts if (module := module_of(one)) is not None}
     return [module for name, module in {**found, **reach.modules}.items() if name != "__main__" and not is_installed_module(module)]
 
 
@@ -204,14 +213,20 @@ def pack_package() -> bytes:
     return data.getvalue()
 
 
-def run_by_executor(executor: Executor, model: Model, measure: Measure | None, listed: Sequence[Run], program: Path | str | None = None,
+def run_by_executor(executor: Executor, work: Callable[[Job], object], jobs: Sequence[Job], program: Path | str | None = None,
                     timeout: float | None = None, ship: bool = False) -> Generator[Outcome, None, None]:
-    """Run runs by an executor. Yield each outcome as it comes.
+    """Run `work(job)` for each job by an executor. Yield each outcome as it comes.
 
     ship: send this package and the program to workers that lack them. NoWorker: a worker has another Python, package or program, and
-    cannot be sent what it lacks. Fault: the executor is broken, or the model cannot be pickled.
+    cannot be sent what it lacks. Fault: the executor is broken, or the work cannot be pickled.
     """
     try:
-        yield from Engine(executor, model, measure, listed, program, timeout, ship).run()
+        yield from Engine(executor, work, jobs, program, timeout, ship).run()
     except NoProgram as fault:
         raise NoWorker(str(fault)) from None
+
+
+def run_jobs(work: Callable[[Job], object], jobs: Sequence[Job], workers: int | None = None, executor: Executor | None = None,
+             ship: bool = False) -> Generator[Outcome, None, None]:
+    """Run `work(job)` for each job in `workers` processes, by default one per processor, or by an executor. Yield each outcome as it comes."""
+    return run_in_parallel(work, jobs, workers) if executor is None else run_by_executor(executor, work, jobs, ship=ship)

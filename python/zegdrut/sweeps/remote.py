@@ -1,4 +1,4 @@
-"""Run runs on the worker of an executor, which may be on another machine and may lack this package and the program."""
+"""Run jobs on the worker of an executor, which may be on another machine and may lack this package and the program."""
 from __future__ import annotations
 
 import atexit
@@ -8,11 +8,9 @@ import shutil
 import tempfile
 import time
 from pathlib import Path
-from typing import NamedTuple, Sequence
+from typing import Callable, NamedTuple, Sequence
 
-from ..program.programs import NoProgram, write_copy
-from .results import Row
-from .runs import Measure, Model, Run, run_one
+from ..program.programs import NoProgram, using_program, write_copy
 
 Reply = tuple[str, str, object]
 """(RAN, worker, list of `Ran`); (NEEDS, worker, what is missing); or (UNFIT, worker, why no run can succeed there)."""
@@ -20,9 +18,9 @@ RAN, NEEDS, UNFIT = "ran", "needs", "unfit"
 
 
 class Order(NamedTuple):
-    """The order for a worker: all that a batch needs, apart from its runs.
+    """The order for a worker: all that a batch needs, apart from its jobs.
 
-    work: the model and the measurement, pickled, with cloudpickle if it is installed. program: how the caller's program is described.
+    work: the function of a job, pickled, with cloudpickle if it is installed. program: how the caller's program is described.
     """
 
     work: bytes
@@ -31,9 +29,9 @@ class Order(NamedTuple):
 
 
 class Ran(NamedTuple):
-    """The figures of a run or its error, and its seconds."""
+    """The outcome of a job: its value or its error, and its seconds."""
 
-    figures: Row | None
+    value: object
     error: str | None
     seconds: float
 
@@ -42,7 +40,7 @@ def boot(python: str, text: str, package: bytes | None, program: bytes | None, o
     """Run a batch. This function is sent as source text: so it imports everything, and needs nothing of this module.
 
     python: the caller's version. text: the hash of the caller's package. package: the package as a zip file, if it is shipped. program:
-    the program and its record, pickled, if they are shipped. order, batch: an `Order` and a list of `Run`, pickled.
+    the program and its record, pickled, if they are shipped. order, batch: an `Order` and a list of jobs, pickled.
     """
     import os
     import platform
@@ -71,32 +69,33 @@ def boot(python: str, text: str, package: bytes | None, program: bytes | None, o
 
 
 def run_batch(worker: str, program: bytes | None, pickle_order: bytes, batch: bytes) -> Reply:
-    """Run a batch of runs. NEEDS: a run needs the program, which is missing or a different one."""
+    """Run a batch of jobs. NEEDS: a job needs the program, which is missing or a different one."""
     order: Order = pickle.loads(pickle_order)
-    listed: Sequence[Run] = pickle.loads(batch)
     path = None if program is None else keep_program(program)
     try:
-        model, measure = unpack(order.work)
+        work = unpack(order.work)
+        jobs: Sequence[object] = pickle.loads(batch)
     except Exception as fault:  # (whatever unpickling raises)
         return UNFIT, worker, f"the model cannot be read there: {type(fault).__name__}: {fault}"
     found: list[Ran] = []
-    for run in listed:
+    for job in jobs:
         begin = time.monotonic()
         try:
-            figures, error = run_one(model, run, measure, program=path or kept_program(), timeout=order.timeout, expected=order.program), None
+            with using_program(path or kept_program(), order.timeout, order.program):
+                value, error = work(job), None
         except NoProgram as fault:
             return NEEDS, worker, str(fault)
         except Exception as fault:
-            figures, error = None, f"{type(fault).__name__}: {fault}"
-        found.append(Ran(figures, error, time.monotonic() - begin))
+            value, error = None, f"{type(fault).__name__}: {fault}"
+        found.append(Ran(value, error, time.monotonic() - begin))
     return RAN, worker, found
 
 
 @functools.lru_cache(8)
-def unpack(work: bytes) -> tuple[Model, Measure | None]:
-    """Return a model and its measurement."""
-    model, measure = pickle.loads(work)
-    return model, measure
+def unpack(work: bytes) -> Callable[[object], object]:
+    """Return the function of a job."""
+    function: Callable[[object], object] = pickle.loads(work)
+    return function
 
 
 KEPT: dict[str, Path] = {}

@@ -11,13 +11,13 @@ import dataclasses
 import itertools
 from dataclasses import dataclass
 from pathlib import Path
-from typing import Any, Callable, Iterable, Mapping, NamedTuple, Union
+from typing import Any, Callable, Iterable, Mapping, NamedTuple, Sequence, Union, cast
 
 from ..program.errors import Fault
 from ..program.lab import RoadLab
 from ..program.plan import Plan
 from ..program.programs import using_program
-from .results import Row, Value, to_plain
+from .results import Row, Series, Value, to_plain
 
 Model = Callable[..., Any]
 """A function of a point's parameters, by name. It returns a `Plan`, or figures by name. Without `measure` it also gets the seed, as
@@ -83,29 +83,55 @@ def list_points(points: Points) -> list[Row]:
     wrong = {"seed", "model"}.intersection(names)
     if wrong:
         raise Fault(f"a parameter cannot be named {wrong.pop()}: this is a column of the results")
-    return [Row((name, to_plain(point[name])) for name in names) for point in listed]
+    found = [Row((name, to_plain(point[name])) for name in names) for point in listed]
+    lists = next((name for point in found for name, value in point.items() if isinstance(value, Series)), None)
+    if lists:
+        raise Fault(f"the parameter {lists} is a list: give each list a name or a number, and look it up in the model")
+    return found
 
 
-def runs(points: Points, seeds: Iterable[int] = (1,)) -> list[Run]:
-    """Return the runs of a sweep, in its order. Fault: there are no points or no seeds."""
+def list_run_points(listed: Sequence[Run]) -> list[Row]:
+    """Return the points of runs, each once."""
+    return list({id(run.point): run.point for run in listed}.values())
+
+
+def join_runs(first: Sequence[Run], more: Sequence[Run]) -> list[Run]:
+    """Return the runs of both, each once, point by point: the points and seeds of `first`, and then those of `more`."""
+    points: dict[tuple[Value, ...], Row] = {}
+    seeds: dict[tuple[Value, ...], dict[int, None]] = {}
+    for run in (*first, *more):
+        values = tuple(run.point.values())
+        points.setdefault(values, run.point)
+        seeds.setdefault(values, {})[run.seed] = None
+    return [Run(point, seed) for values, point in points.items() for seed in seeds[values]]
+
+
+def runs(points: Points | Sequence[Run], seeds: Iterable[int] = (1,)) -> list[Run]:
+    """Return the runs of a sweep, in its order. A list of runs has its own seeds. Fault: there are no points or no seeds."""
+    given = list(points)
+    own = [run for run in given if isinstance(run, Run)]
+    if own and len(own) == len(given):
+        return [Run(point, run.seed) for point, run in zip(list_points([run.point for run in own]), own)]
     drawn = [int(seed) for seed in seeds]
-    found = [Run(point, seed) for point in list_points(points) for seed in drawn]
+    found = [Run(point, seed) for point in list_points(cast(Points, points if isinstance(points, Mapping) else given)) for seed in drawn]
     if not found:
         raise Fault("there are no seeds: give at least one")
     return found
 
 
-def run_one(model: Model, run: Run, measure: Measure | None = None, *, program: Path | str | None = None, timeout: float | None = None,
-            expected: str | None = None) -> Row:
+def run_one(model: Model, run: Run, measure: Measure | None = None, *, program: Path | str | None = None, timeout: float | None = None) -> Row:
     """Run a point with a seed. Return its figures.
 
     program: the program of its labs, by default the one that is found everywhere. timeout: the seconds for all calls of its labs.
-    expected: the description of the program that it must be, by `describe_program`.
-    Fault: the model returns something else than a `Plan` (with `measure`) or figures. LabTimeout: it takes longer. OtherProgram: the
-    program is not the expected one.
+    Fault: the model returns something else than a `Plan` (with `measure`) or figures. LabTimeout: it takes longer.
     """
-    with using_program(program, timeout, expected):
-        return run_point(model, measure, run.point, run.seed)
+    with using_program(program, timeout):
+        return run_job(model, measure, run)
+
+
+def run_job(model: Model, measure: Measure | None, run: Run) -> Row:
+    """Run a point with a seed, with the program that is used everywhere. Return its figures."""
+    return run_point(model, measure, run.point, run.seed)
 
 
 def run_point(model: Model, measure: Measure | None, point: Mapping[str, Value], seed: int) -> Row:

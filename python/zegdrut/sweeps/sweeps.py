@@ -13,6 +13,7 @@
 from __future__ import annotations
 
 import contextlib
+import functools
 import time
 from concurrent.futures import Executor
 from dataclasses import dataclass
@@ -28,8 +29,8 @@ from .about import About, Named, beside, describe_sweep, explain_change, find_ki
 from .engine import run_by_executor
 from .marks import Mark, OtherMark, Unknown, make_mark
 from .pool import Outcome, run_in_parallel
-from .results import Column, Results, Row, Series, Value, format_cell, format_row, parse_table, read_rows, replace_file
-from .runs import Flows, Measure, Model, Points, Run, run_one, runs
+from .results import Column, Results, Row, Series, Value, format_cell, format_row, parse_cell, parse_table, read_rows, replace_file
+from .runs import Flows, Measure, Model, Points, Run, join_runs, list_run_points, run_job, run_one, runs
 from .tables import make_dataset, make_frame, write_netcdf
 
 if TYPE_CHECKING:
@@ -120,14 +121,14 @@ def load(path: Path | str) -> Sweep:
     return Sweep(names, rows, failures, about)
 
 
-def sweep(model: Model, points: Points, seeds: Iterable[int] = (1,), *, measure: Measure | None = None, out: Path | str | None = None,
-          jobs: int | None = None, part: tuple[int, int] = (1, 1), take: Iterable[Path | str] = (), version: str | None = None,
+def sweep(model: Model, points: Points | Sequence[Run], seeds: Iterable[int] = (1,), *, measure: Measure | None = None,
+          out: Path | str | None = None, jobs: int | None = None, part: tuple[int, int] = (1, 1), take: Iterable[Path | str] = (), version: str | None = None,
           program: Path | str | None = None, timeout: float | None = None, units: Mapping[str, str] | None = None,
           executor: Executor | None = None, ship: bool = False, named: tuple[str, Named] | None = None,
           progress: Progress | None = None) -> Sweep:
     """Run a model for each point and each seed, in `jobs` processes, by default one per processor, or by an executor.
 
-    With `measure`, `model(**point)` returns a `Plan`, whose seed is replaced, and `measure(lab)` returns the figures of its road.
+    points: a grid, a list of points, or a list of runs, which have their own seeds. With `measure`, `model(**point)` returns a `Plan`, whose seed is replaced, and `measure(lab)` returns the figures of its road.
     Without it, `model(seed=seed, **point)` returns the figures. A run that raises an exception or dies becomes a `Failure`; the
     other runs continue.
 
@@ -137,7 +138,8 @@ def sweep(model: Model, points: Points, seeds: Iterable[int] = (1,), *, measure:
     are copied first. version: a string that stands for the source of the model; without it, `marks` finds what the model reaches.
     program: the program of the runs' labs. timeout: the seconds after which a run is ended and counts as failed. units: the unit of
     each parameter or figure; `measure.unit` gives those that are not named. executor: runs the runs, in the form of
-    `concurrent.futures`; then `timeout` holds for the calls of labs. ship: send this package and the program to its workers. named: the model and the measurement as a command names them.
+    `concurrent.futures`; then `timeout` holds for the calls of labs. ship: send this package and the program to its workers. named: the
+    model and the measurement as a command names them.
 
     Fault: there are no points or seeds, or a file has different columns. OtherMark: a file has results of another model, measurement or
     program. Unknown: `version` is needed for a file. Nothing has been written then. NoProgram: a run needs a program, which is missing.
@@ -149,26 +151,33 @@ def sweep(model: Model, points: Points, seeds: Iterable[int] = (1,), *, measure:
     if jobs is not None and jobs < 1:
         raise Fault(f"jobs must be 1 or more, not {jobs}")
     names, mark = list(listed[0].point), find_mark(model, measure, version, program, out)
-    keys = [[*map(format_cell, run.point.values()), str(run.seed), mark.text] for run in listed]
+    keys = [make_key(run, mark) for run in listed]
     if len({tuple(key) for key in keys}) < len(keys):
         raise Fault("a point or a seed appears twice: remove one")
     mine = range(part[0] - 1, len(listed), part[1])
     program_path()  # (prints the note about the program once)
     table = Table(out, listed, measure, units or {}, mark, [Path(path) for path in take])
     try:
-        table.describe(named or (find_name(model) or "", name_measure(measure)), list_plans(model, listed) if measure else [], part, version)
+        held = table.list_runs([listed[number] for number in mine])
+        table.describe(named or (find_name(model) or "", name_measure(measure)), held, list_plans(model, held) if measure else [], version)
         missing = [number for number in mine if tuple(keys[number]) not in table.results.rows]
         with contextlib.closing(
                 run_in_parallel(lambda number: run_one(model, listed[number], measure, program=program), missing, jobs, timeout)
                 if executor is None else
-                run_by_executor(executor, model, measure, [listed[number] for number in missing], program, timeout, ship)) as outcomes:
-            table.end(keys, table.run(outcomes, keys, missing, len(mine), progress))
+                run_by_executor(executor, functools.partial(run_job, model, measure), [listed[number] for number in missing], program, timeout,
+                                ship)) as outcomes:
+            table.end([make_key(run, mark) for run in held], table.run(outcomes, keys, missing, len(mine), progress))
     finally:
         table.results.close()
     failures = table.failures
     rows = [Row({**listed[number].point, "seed": listed[number].seed, "model": mark.text, **figures})
             for number in mine if (figures := table.results.figures(keys[number])) is not None]
     return Sweep(names, rows, failures, table.about)
+
+
+def make_key(run: Run, mark: Mark) -> list[str]:
+    """Return the cells of a run's row before its figures."""
+    return [*map(format_cell, run.point.values()), str(run.seed), mark.text]
 
 
 class Table:
@@ -180,10 +189,11 @@ class Table:
         self._out, self._listed, self._mark = None if out is None else Path(out), listed, mark
         self._units, self._measure = units, measure
         self.failures: list[Failure] = []
-        names = list(listed[0].point)
+        self._names = names = list(listed[0].point)
         self._parameters = find_kinds([run.point for run in listed])
         for path in parts:
             self._check_marks(parse_table(path.read_bytes(), path)[1], len(names) + 1, path)
+        self._known = [run for path in (*parts, self._out) if path and beside(path).exists() for run in read_about(beside(path)).runs()]
         self.about: About | None = None
         self.results = Results(out, [*names, "seed", "model"], self._kinds_of(self._out), self._write)
         try:
@@ -207,12 +217,17 @@ class Table:
             return {}
         return {name: column for name, column in read_about(beside(path)).columns.items() if name not in {*self._parameters, "seed", "model"}}
 
-    def describe(self, named: tuple[str, Named], plans: list[PlanLine | None], part: tuple[int, int], version: str | None) -> None:
-        """Write what makes the table."""
+    def list_runs(self, mine: Sequence[Run]) -> list[Run]:
+        """Return the runs that the table will hold, in the order of its rows: `mine`, and then those of other calls that it has."""
+        known = {tuple(make_key(run, self._mark)): run for run in self._known}
+        held = [known.get(key) or Run(Row(zip(self._names, map(parse_cell, key))), int(key[len(self._names)])) for key in self.results.rows]
+        return join_runs(mine, held)
+
+    def describe(self, named: tuple[str, Named], held: Sequence[Run], plans: list[PlanLine | None], version: str | None) -> None:
+        """Write what makes the table of the runs `held`."""
+        self._parameters = find_kinds(list_run_points(held))
         if self._out is not None:
-            points = list({id(run.point): run.point for run in self._listed}.values())
-            seeds = list(dict.fromkeys(run.seed for run in self._listed))
-            self.about = describe_sweep(self._out, named[0] or None, named[1], points, seeds, part, self._mark, version)
+            self.about = describe_sweep(self._out, named[0] or None, named[1], held, self._mark, version)
             self.about.plans = plans
             self._write()
 
@@ -262,7 +277,7 @@ def name_measure(measure: Measure | None) -> Named:
 def list_plans(model: Model, listed: Sequence[Run]) -> list[PlanLine | None]:
     """Return the plan of each point, or None for a point whose model fails."""
     found: list[PlanLine | None] = []
-    for point in {id(run.point): run.point for run in listed}.values():
+    for point in list_run_points(listed):
         try:
             plan = model(**point)
             found.append(plan.to_line() if isinstance(plan, Plan) else None)

@@ -1,0 +1,91 @@
+"""Count the cars behind works with a capacity, in files of freeways."""
+from __future__ import annotations
+
+import json
+import statistics
+import tempfile
+import unittest
+from pathlib import Path
+
+from zegdrut import Fault, RoadLab
+from zegdrut.commands.freeway import FIGURES
+from zegdrut.roads.capacity import describe_capacity, find_capacity
+from zegdrut.roads.demand import Drivers
+from zegdrut.roads.freeway import Figures, make_road, make_shapes
+from zegdrut.roads.road_scripts import make_script
+
+SEEDS = range(1, 7)
+T_OF_FIVE = 2.570582
+"""Student's t for five degrees of freedom, from printed tables."""
+PLAIN = {"length": 2.4, "main": 1_700, "entry": 0.3, "limit": 135, "slowing": 0.16, "start": 0.45, "ramps": [], "minutes": 40, "detectors": [2.1],
+         "stretch": [0.3, 0.6]}
+
+
+def read_figures(**fields: object) -> Figures:
+    """Read a file with these fields beside those of PLAIN."""
+    with tempfile.TemporaryDirectory() as name:
+        path = Path(name, "road.json")
+        path.write_text(json.dumps({**PLAIN, **fields}), encoding="utf-8")
+        return FIGURES.override(path)
+
+
+def count_flows(figures: Figures, first: int, last: int) -> list[float]:
+    """Return the cars per hour that pass the detector in some steps, for each seed: the cars that are before it and then behind it."""
+    road, flows = make_road(figures), []
+    for seed in SEEDS:
+        script = make_script(road, [[(0, 65_536)]], seed)
+        with RoadLab(script.plan) as lab:
+            for line in script.commands:
+                lab.ask(line)
+            # No car drives from the inlet to the detector in ten steps.
+            upstream = [{car.number for car in lab.cars("A", step) if car.cell < road.detectors[0]} for step in range(first, last + 1, 10)]
+            flows.append(sum(len(before - after) for before, after in zip(upstream, upstream[1:])) * 3_600 / (last - first))
+    return flows
+
+
+class Capacity(unittest.TestCase):
+    def test_the_flow_behind_works(self) -> None:
+        """Works that leave 600, 900 or 1,200 cars an hour: as many cars pass a detector behind them, within the interval of six seeds. Before
+        they begin, more pass."""
+        for cars, length, limit in ((600, 0.6, None), (900, 0.15, None), (1_200, 0.6, None)):
+            section = {"first": 0.9, "last": 0.9 + length, "begin": 10, "end": 40, "capacity": cars, **({} if limit is None else {"limit": limit})}
+            figures = read_figures(sections=[section], zone=0.15)
+            flows = count_flows(figures, 1_000, 2_400)
+            half = T_OF_FIVE * statistics.stdev(flows) / 6 ** 0.5
+            self.assertLess(abs(statistics.mean(flows) - cars), half + 0.003 * cars, (cars, flows))
+            self.assertLess(half, 25)
+            self.assertGreater(statistics.mean(count_flows(figures, 300, 600)), 1_350)
+
+    def test_what_it_becomes(self) -> None:
+        """A capacity is a limit (54 km/h by default), a slowing chance, and the same chance for standing cars, in the zones of its section. The
+        note and the shapes have the same values."""
+        figures = read_figures(sections=[[0.9, 1.2, 10, 30, None, None, None, 900]], zone=0.3)
+        road = make_road(figures)
+        found = find_capacity(900, 54, Drivers(5, 10_486, 29_491), 40)
+        self.assertEqual(road.edits, [("limit", 3, 600, 2), ("limit", 3, 1_800, 5), ("slow", 3, 600, found.slowing), ("slow", 3, 1_800, 10_486),
+                                      ("start", 3, 600, found.slowing), ("start", 3, 1_800, 29_491)])
+        self.assertEqual([note for note in road.notes if "cars/h" in note],
+                         [f"the section from km 0.9 to 1.2: 900 cars/h: limit 54 km/h, slowing {found.slowing / 65_536:.2f}"])
+        self.assertEqual(describe_capacity(found), f"900 cars/h: limit 54 km/h, slowing {found.slowing / 65_536:.2f}")
+        self.assertEqual([shape for shape in make_shapes(figures, road, [[(0, 60_000)]]) if shape[3]],
+                         [(kind, 3, 3, 600, 1_800, value) for kind, value in (("limit", 2), ("slow", found.slowing), ("start", found.slowing))])
+
+    def test_refusals(self) -> None:
+        """Each refusal says what to do."""
+        place = "the section from km 0.9 to 1.2: "
+        for fields, said in (
+                ({"capacity": 900, "slowing": 0.3}, "a capacity stands for a slowing chance and a slow-to-start chance: leave these out, or the capacity"),
+                ({"capacity": 2_500}, "a capacity of 2,500 cars per hour is out of range: works of 0.3 km with a limit of 54 km/h leave "),
+                ({"capacity": 0}, "a capacity of 0 cars per hour is out of range"),
+                ({"capacity": 1_700, "limit": 5}, "a capacity of 1,700 cars per hour is out of range: works of 0.3 km with a limit of 27 km/h leave "),
+                ({"capacity": 900, "limit": 0}, "a capacity needs a limit above 0 km/h, not 0: works that leave no car are a closure")):
+            with self.assertRaises(Fault) as caught:
+                make_road(read_figures(sections=[{"first": 0.9, "last": 1.2, "begin": 10, "end": 30, **fields}], zone=0.3))
+            self.assertIn(place + said, str(caught.exception))
+        with self.assertRaises(Fault) as caught:
+            read_figures(sections=[{"first": 0.9, "last": 1.2, "begin": 10, "end": 30, "capacity": "900"}])
+        self.assertIn('sections[0].capacity: "900" is not a number', str(caught.exception))
+
+
+if __name__ == "__main__":
+    unittest.main()

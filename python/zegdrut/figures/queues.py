@@ -1,0 +1,179 @@
+"""Run a day of a road before which cars wait if they cannot enter, and say what its figures need then.
+
+    road = read_road("works.jsonl", script)                       # a script of any kind as a plan, its edits and an advance
+    run = run_day(road.script, road.free, Window(0, road.last))
+    run.list_waiting(0), run.by_arrival                           # the cars that wait before inlet 0; the cars by their arrivals
+
+The rule is in `zegdrut.roads.waiting`.
+"""
+from __future__ import annotations
+
+import dataclasses
+import math
+from typing import Mapping, NamedTuple, Sequence
+
+from ..program.lab import RoadLab
+from ..program.records import Edit
+from ..program.scripts import Script, choose_replica, open_edited
+from ..program.wire import Fields
+from ..roads.capacity import NEAR_OUTFLOW, measure_outflow
+from ..roads.demand import Drivers, Rates
+from ..roads.units import HOUR
+from ..roads.waiting import ask_edits, find_arrivals, find_main, let_wait, name_by_arrival
+from .lost import find_drivers
+from .simulation import RoadRun, read_run
+from .table import FREEWAY, Bound, Figure, FigureRow, count_lost
+from .trips import Window, entry_inlet, entry_step
+
+WAITING_KEYS = ("wait", "wait queue", "wait end", "all hours")
+"""The figures of cars that wait before the road, which are shown if cars wait."""
+GROWING_KEYS = ("delay", "together", *WAITING_KEYS)
+"""The figures that are too small if cars still wait in the last row."""
+
+
+class EditedRoad(NamedTuple):
+    """A road that a script leaves: the script of its winning edits, the script of the same road without works, and its last step."""
+
+    script: Script
+    free: Script
+    edits: list[Edit]
+    last: int
+
+    @property
+    def drivers(self) -> Drivers:
+        """Return the drivers at the main inlet."""
+        plan = self.script.plan
+        return find_drivers(plan, self.edits, int(plan["inlets"][find_main(plan)][0]))
+
+
+def read_road(name: object, script: Script, at: str | None = None) -> EditedRoad:
+    """Carry out a script, and return the road of the replica `at`, by default the first one.
+
+    Without works a road has the edits of its demand, and those of slow-to-start in step 0. Fault: a line is refused. `name` names the script
+    in the message. Refused: there is no such replica."""
+    with open_edited(str(name), script) as lab:
+        replica = choose_replica(lab, at)
+        last, edits = lab.advance(replica, 0), lab.scenario(replica)
+    plan = script.plan.copy()
+    plan["replicas"] = ["A"]
+    lines: list[tuple[Edit, Fields]] = [(edit, {"edit": {"at": "A", "object": list(edit.object), "step": edit.step, "value": edit.value}})
+                                        for edit in edits if edit.value is not None]
+    advance: Fields = {"advance": {"at": "A", "to": last}}
+    return EditedRoad(Script(plan, [*(line for _, line in lines), advance]),
+                      Script(plan, [*(line for edit, line in lines if is_of_free_road(edit)), advance]), edits, last)
+
+
+def read_roads(names: Sequence[object], scripts: Sequence[Script], at: str | None = None) -> list[EditedRoad]:
+    """Carry out scripts, and return their roads, up to the last step of any of them. The errors are those of `read_road`."""
+    roads = [read_road(name, script, at) for name, script in zip(names, scripts)]
+    last = max(road.last for road in roads)
+    return [road._replace(last=last) for road in roads]
+
+
+def is_of_free_road(edit: Edit) -> bool:
+    """Return whether the road without works has an edit, too: of an inflow, or of slow-to-start in step 0."""
+    kind = edit.object[0]
+    return kind == "inflow" or kind == "start" and edit.step == 0
+
+
+def run_day(script: Script, free: Script | None, window: Window, demands: Sequence[Rates] = (), detectors: Sequence[int] | None = None,
+            period: int | None = None, with_passings: bool = True, with_rows: bool = False, seconds: float = 1.0, waits: bool = True) -> RoadRun:
+    """Run a script up to the end of a window. Cars wait before its inlets if `free`, its script without works, is given; otherwise, and
+    unless `waits`, cars that cannot enter are lost. `read_run` describes the other arguments."""
+    with RoadLab(script.plan) as lab:
+        ask_edits(lab, script.commands)
+        arrivals = {} if free is None else find_arrivals(script, free, window.last)
+        queues = let_wait(lab, "A", arrivals if waits else {}, window.last)
+        run = read_run(lab, "A", window, demands, detectors, period, with_passings, with_rows, seconds)
+    return dataclasses.replace(run, arrived=name_by_arrival(run.trips, arrivals, queues), arrivals={} if waits else arrivals,
+                               waiting={inlet: queue.waiting for inlet, queue in queues.items()})
+
+
+# What the figures need
+
+class Waits(NamedTuple):
+    """The queues of a run in its window."""
+
+    inlets: frozenset[int]
+    """The inlets before which cars wait."""
+    is_growing: bool
+    """Whether cars still wait in the last row."""
+    arriving: float | None
+    """The cars per hour that arrive at the main inlet while cars wait there; None if nobody waits there."""
+
+    @staticmethod
+    def of(run: RoadRun) -> Waits:
+        """Return the queues of a run."""
+        main = find_main(run.trips.plan)
+        steps = {run.window.first + place for place, cars in enumerate(run.list_waiting(main)) if cars}
+        arrived = sum(entry_inlet(number) == main and entry_step(number) in steps for number in run.by_arrival.left)
+        return Waits(frozenset(inlet for inlet in run.waiting if any(run.list_waiting(inlet))),
+                     any(any(run.list_waiting(inlet)[-1:]) for inlet in run.waiting),
+                     arrived * HOUR / (len(steps) * run.seconds) if steps else None)
+
+
+def find_inlets(days: Sequence[Sequence[Waits]]) -> frozenset[int]:
+    """Return the inlets before which cars wait on some day of some road."""
+    return frozenset().union(*(waits.inlets for day in days for waits in day))
+
+
+def is_shown(figure: Figure, inlets: frozenset[int]) -> bool:
+    """Return whether a figure is shown if cars wait before some inlets. Figures of queues are left out if nobody waits."""
+    return figure.key not in WAITING_KEYS or bool(inlets) and figure.of.inlet in {None, *inlets}
+
+
+def with_bounds(rows: Sequence[FigureRow], names: Sequence[str], days: Sequence[Sequence[Waits]]) -> list[FigureRow]:
+    """Return rows that say which figures are bounds, because cars of some roads still wait in the last row. `names` are those of the
+    roads."""
+    grow = find_growing(days)
+    return [dataclasses.replace(row, bound=find_bound(grow), words=explain_growing(names, grow)) if row.figure.key in GROWING_KEYS else row
+            for row in rows] if any(grow) else [*rows]
+
+
+def find_growing(days: Sequence[Sequence[Waits]]) -> list[bool]:
+    """Return for each road whether cars still wait in the last row of one of its days."""
+    return [any(waits.is_growing for waits in road) for road in zip(*days)]
+
+
+def find_bound(grow: Sequence[bool]) -> Bound:
+    """Return how the figures of delay relate to the true ones, if cars of some roads still wait in the last row."""
+    *before, after = grow
+    return "" if not any(grow) else "at most" if not after else "unknown" if any(before) else "at least"
+
+
+def explain_growing(names: Sequence[str], grow: Sequence[bool]) -> str:
+    """Return a sentence that says on which roads cars still wait in the last row; an empty string if on none."""
+    where = " and ".join(f"on the road {name}" for name, grows in zip(names, grow) if grows)
+    return f"Cars still wait at the end {where}: the figures of delay and waiting do not include what these cars lose later." if where else ""
+
+
+LOSING_KEYS = ("delay", "hours")
+"""The figures that leave out what lost cars would lose."""
+
+
+def with_lost(rows: Sequence[FigureRow], names: Sequence[str], lost: Sequence[Mapping[str, float]]) -> list[FigureRow]:
+    """Return rows that say which figures are bounds, because roads lose cars that cannot enter. `lost` has the lost cars of each road, by the
+    place of the inlet; `names` are those of the roads."""
+    parts = [f"{cars:,.0f} at {place} ({name})" for name, of_road in zip(names, lost) for place, cars in of_road.items() if cars]
+    if not parts:
+        return [*rows]
+    bound = find_bound([any(of_road.values()) for of_road in lost])
+    words = f"Cars that cannot enter are lost: {', '.join(parts)}; hours and delay leave them out."
+    return [dataclasses.replace(row, bound=bound, words=f"{row.words} {words}".strip()) if row.figure.key in LOSING_KEYS else row for row in rows]
+
+
+def average_lost(runs: Sequence[RoadRun]) -> dict[str, float]:
+    """Return the mean number of cars that each inlet of a road loses on some days, by its place; 0 if the arrivals are not known."""
+    plan = runs[0].trips.plan
+    return {FREEWAY.place(cell): math.fsum(count_lost(run, inlet) for run in runs if run.arrivals) / len(runs)
+            for inlet, (cell, _) in enumerate(plan["inlets"])}
+
+
+def explain_outflow(drivers: Drivers, days: Sequence[Sequence[Waits]]) -> list[str]:
+    """Return a sentence if the demand while cars wait is close to what a queue of some drivers lets out, which makes the waiting inexact."""
+    demands = [waits.arriving for day in days for waits in day if waits.arriving is not None]
+    if not demands:
+        return []
+    demand, outflow = math.fsum(demands) / len(demands), measure_outflow(drivers._replace(entry=0)).mean
+    return [f"While cars wait before the road, {demand:,.0f} cars per hour arrive, and a queue lets out {outflow:,.0f}: with less than "
+            f"{NEAR_OUTFLOW} between them the waiting is some 10 % too low."] if demand > outflow - NEAR_OUTFLOW else []
