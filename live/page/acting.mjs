@@ -78,7 +78,7 @@ export function putAgain(change, {stamp}) {
 }
 
 /** Exclude a site, or include it again. Others exclude it, too, once that is shared.
- * @param {number} site
+ * @param {string} site
  * @param {boolean} [isExcluded]
  */
 export function excludeSite(site, isExcluded = true) {

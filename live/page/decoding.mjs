@@ -1,18 +1,17 @@
-// What the server sends, as objects with named fields, and back: stamps, shapes, parts and edits of
-// changes, figures. Another site may have sent anything: malformed parts are left out.
+// What the server sends, as objects with named fields, and back: stamps, shapes and parts of changes,
+// figures. Another site may have sent anything: malformed parts are left out.
 
 /** @typedef {import("./types.mjs").Answers} Answers */
-/** @typedef {import("./types.mjs").Edit} Edit */
+/** @typedef {import("./types.mjs").Change} Change */
+/** @typedef {import("./types.mjs").FigureRow} FigureRow */
 /** @typedef {import("./types.mjs").Figures} Figures */
 /** @typedef {import("./types.mjs").Gone} Gone */
 /** @typedef {import("./types.mjs").Kind} Kind */
 /** @typedef {import("./types.mjs").ListNews} ListNews */
 /** @typedef {import("./types.mjs").Mean} Mean */
 /** @typedef {import("./types.mjs").Rectangle} Rectangle */
-/** @typedef {import("./types.mjs").RoadFigures} RoadFigures */
 /** @typedef {import("./types.mjs").Shape} Shape */
 /** @typedef {import("./types.mjs").Stamp} Stamp */
-/** @typedef {import("./types.mjs").TaggedChange} TaggedChange */
 /** @typedef {import("./types.mjs").WireAnswers} WireAnswers */
 /** @typedef {import("./types.mjs").WireChange} WireChange */
 /** @typedef {import("./types.mjs").WireFigures} WireFigures */
@@ -20,14 +19,15 @@
 /** @typedef {import("./types.mjs").WireLayers} WireLayers */
 /** @typedef {import("./types.mjs").WireMean} WireMean */
 /** @typedef {import("./types.mjs").WireOperation} WireOperation */
-/** @typedef {import("./types.mjs").WireRoadFigures} WireRoadFigures */
+/** @typedef {import("./types.mjs").WireEntries} WireEntries */
+/** @typedef {import("./types.mjs").WireFigureRow} WireFigureRow */
 /** @typedef {import("./types.mjs").WireShape} WireShape */
 /** @typedef {import("./types.mjs").WireStamp} WireStamp */
 /** @typedef {import("./types.mjs").WireTrip} WireTrip */
 /** @typedef {import("./types.mjs").Trip} Trip */
 
 /** @type {readonly Kind[]} */
-const KINDS = ["block", "limit", "slow", "start", "inflow", "watch"];
+const KINDS = ["block", "limit", "slow", "start", "inflow", "watch", "capacity"];
 
 /** Ask whether a value is the name of a kind.
  * @param {unknown} value
@@ -53,19 +53,19 @@ const isWhole = (value) => Number.isInteger(value);
  */
 const listOf = (value) => (Array.isArray(value) ? value : []);
 
-/** Return the stamp of [count, number].
+/** Return the stamp of [count, hash].
  * @param {WireStamp} wire
  * @returns {Stamp}
  */
-export const decodeStamp = ([count, number]) => ({count, number});
+export const decodeStamp = ([count, hash]) => ({count, hash});
 
-/** Return [count, number] of a stamp.
+/** Return [count, hash] of a stamp.
  * @param {Stamp} stamp
  * @returns {WireStamp}
  */
-export const encodeStamp = ({count, number}) => [count, number];
+export const encodeStamp = ({count, hash}) => [count, hash];
 
-/** Return the stamp of [count, number]; null of null.
+/** Return the stamp of [count, hash]; null of null.
  * @param {WireStamp | null | undefined} wire
  */
 const decodeIfAny = (wire) => (wire ? decodeStamp(wire) : null);
@@ -77,8 +77,10 @@ const decodeIfAny = (wire) => (wire ? decodeStamp(wire) : null);
 export function decodeShape(wire) {
   const [kind, first, last, from, to, value] = listOf(wire);
   if (!isKind(kind) || !isCount(first) || !isCount(last) || !isCount(from)) return null;
-  if ((to !== null && !isCount(to)) || !isWhole(value)) return null;
-  return {kind, first, last, from, to, value};
+  if (to !== null && !isCount(to)) return null;
+  const [cars, ...rest] = kind === "capacity" ? listOf(value) : [value];
+  if (!isWhole(cars) || !rest.every(isWhole)) return null;
+  return {kind, first, last, from, to, value: cars, ...(kind === "capacity" ? {measured: rest} : {})};
 }
 
 /** Return an inflow with the demand that it is for, if that is known; another shape as it is.
@@ -94,8 +96,8 @@ const withDemand = (shape, demand) =>
  * @param {Shape} shape
  * @returns {WireShape}
  */
-export const encodeShape = ({kind, first, last, from, to, value}) =>
-  [kind, first, last, from, to, value];
+export const encodeShape = ({kind, first, last, from, to, value, measured}) =>
+  [kind, first, last, from, to, measured ? [value, ...measured] : value];
 
 /** Return the parts of a change of [kind, first, last, from, until, value, by].
  * @param {unknown} wire
@@ -103,20 +105,10 @@ export const encodeShape = ({kind, first, last, from, to, value}) =>
  */
 export const decodeParts = (wire) => listOf(wire).flatMap((part) => {
   const [shape, by] = [decodeShape(part), listOf(part)[6]];
-  const [count, number] = listOf(by);
-  if (!shape || !(by === null || (isCount(count) && isCount(number)))) return [];
-  return [{...shape, by: isCount(count) && isCount(number) ? {count, number} : null}];
+  const [count, hash] = listOf(by);
+  const over = isCount(count) && typeof hash === "string" ? {count, hash} : null;
+  return shape && (by === null || over) ? [{...shape, by: over}] : [];
 });
-
-/** Return the edit of [kind, index, step, value]; none if it is malformed.
- * @param {unknown} wire
- * @returns {Edit[]}
- */
-function decodeEdit(wire) {
-  const [kind, index, step, value] = listOf(wire);
-  if (!isKind(kind) || !isCount(index) || !isCount(step)) return [];
-  return value === null || isWhole(value) ? [{kind, index, step, value}] : [];
-}
 
 /** Return an operation on a change.
  * @param {WireOperation} wire
@@ -127,19 +119,16 @@ const decodeOperation = ({stamp, undoes, lost, shape, demand, ...wire}) =>
 
 /** Return a change, or the entry that says that one is gone.
  * @param {WireChange | WireGone} wire
- * @returns {TaggedChange | Gone}
+ * @returns {Change | Gone}
  */
 export function decodeChange(wire) {
   const name = decodeStamp(wire.name);
   if ("gone" in wire) return {name, gone: true};
-  const {shape, shown, edits, operations, was, demand, ...rest} = wire;
-  const [, number] = listOf(shape);
+  const {shape, shown, operations, was, demand, site = null, ...rest} = wire;
   const decode = (/** @type {unknown} */ parts) =>
     decodeParts(parts).map((part) => withDemand(part, demand));
-  return {...rest, name, shape: withDemand(decodeShape(shape), demand), shown: decode(shown),
-          edits: listOf(edits).flatMap(decodeEdit), operations: operations.map(decodeOperation),
-          site: wire.kind === "site" && isCount(number) ? number : null,
-          ...(was === undefined ? {} : {was: was && decode(was)})};
+  return {...rest, name, site, shape: withDemand(decodeShape(shape), demand), shown: decode(shown),
+          operations: operations.map(decodeOperation), ...(was === undefined ? {} : {was: was && decode(was)})};
 }
 
 /** Return the changes that differ from an earlier version of the list, and what Undo and Redo would
@@ -158,21 +147,12 @@ export const decodeList = ({layers, next, since, more = false, undo, redo, block
  */
 const decodeTrip = ([cars, seconds]) => ({cars, seconds});
 
-/** Return the figures of a road.
- * @param {WireRoadFigures} wire
- * @returns {RoadFigures}
+/** Return travel times by the minute of entry, in the order of minutes.
+ * @param {WireEntries} wire
  */
-const decodeRoad = ({travel, travel_by_entry: byEntry = {}, ...wire}) => ({...wire,
-  travel: travel.map(decodeTrip), entries: Object.entries(byEntry)
-    .map(([step, trips]) => ({step: Number(step), trips: trips.map(decodeTrip)}))
-    .sort((one, other) => one.step - other.step)});
-
-/** Return the figures of two roads.
- * @param {WireFigures} wire
- * @returns {Figures}
- */
-export const decodeFigures = ({before, after, later, ...wire}) =>
-  ({...wire, before: decodeRoad(before), after: decodeRoad(after), later: later.map(decodeTrip)});
+const decodeEntries = (wire) => Object.entries(wire)
+  .map(([step, trips]) => ({step: Number(step), trips: trips.map(decodeTrip)}))
+  .sort((one, other) => one.step - other.step);
 
 /** Return the mean of [mean, half-width of its interval].
  * @param {WireMean} wire
@@ -180,13 +160,25 @@ export const decodeFigures = ({before, after, later, ...wire}) =>
  */
 const decodeMean = ([mean, half]) => ({mean, half});
 
+/** Return a figure of two roads.
+ * @param {WireFigureRow} wire
+ * @returns {FigureRow}
+ */
+const decodeRow = ({before, after, difference, ...wire}) => ({...wire, before: decodeMean(before),
+  after: decodeMean(after), difference: decodeMean(difference)});
+
+/** Return the figures of two roads.
+ * @param {WireFigures} wire
+ * @returns {Figures}
+ */
+export const decodeFigures = ({figures, entries: {before, after}, ...wire}) => ({...wire,
+  figures: figures.map(decodeRow), entries: {before: decodeEntries(before), after: decodeEntries(after)}});
+
 /** Return the figures of many days.
  * @param {WireAnswers["days"]} wire
  * @returns {Answers["days"]}
  */
-export const decodeDays = ({figures = [], ...wire}) => ({...wire,
-  figures: figures.map(({name, before, after, difference}) => ({name, before: decodeMean(before),
-    after: decodeMean(after), difference: decodeMean(difference)}))});
+export const decodeDays = ({figures = [], ...wire}) => ({...wire, figures: figures.map(decodeRow)});
 
 /** Return the answer to an act.
  * @param {WireAnswers["gesture"]} wire

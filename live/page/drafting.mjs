@@ -88,7 +88,7 @@ export function applyForm() {
 /** Ask whether an area would leave its change as it is, and nothing is pending that may alter it.
  * @param {Area} area
  */
-const isAsItWas = ({shape, old}) => old && !old.isRaw && store.pending.size === 0
+const isAsItWas = ({shape, old}) => old && store.pending.size === 0
   && sameShape(old.shape, shape);
 
 /** Put an area, or say why not. Return whether it had no fault. A demand waits until its inlet is

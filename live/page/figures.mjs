@@ -1,107 +1,30 @@
-// View: figures of the minutes that are shown, mine next to shared: vehicle hours, lost demand,
-// delay, cars and mean speeds at the detectors; warnings; the diagram as a table. The figures are
-// computed from all rows of these minutes, so they are the same at each zoom.
+// View: figures of the minutes that are shown, mine next to shared; warnings; the diagram as a table.
+// The figures are computed from all rows of these minutes, so they are the same at each zoom.
 
 import {boxSums} from "../../viewer/drawing.mjs";
 import {$, element, headCell, on, row, showList} from "./elements.mjs";
 import {exactOf, refreshFigures} from "./fetching.mjs";
+import {figureTable, wordsOf} from "./figuretable.mjs";
 import {countTrapped} from "./layers.mjs";
 import {setOpen} from "./looking.mjs";
 import * as messages from "./messages.mjs";
 import {placesText} from "./sentences.mjs";
-import {need, layersOf, roadOf, store, watch, whoseShown} from "./store.mjs";
-import {HOUR, KMH_A_CELL, durationText, kmText, signedText, sum, whole} from "./units.mjs";
+import {BOTH, need, layersOf, roadOf, store, watch, whoseShown} from "./store.mjs";
+import {HOUR, KMH_A_CELL, kmText, signedText, sum} from "./units.mjs";
 import {everyShown} from "./view.mjs";
 
 /** @typedef {import("./store.mjs").RoadName} RoadName */
-/** @typedef {import("./types.mjs").DetectorFigures} DetectorFigures */
+/** @typedef {import("./types.mjs").FigureHead} FigureHead */
+/** @typedef {import("./types.mjs").FigureRow} FigureRow */
 /** @typedef {import("./types.mjs").Figures} Figures */
 /** @typedef {import("./types.mjs").Frame} Frame */
 /** @typedef {import("./types.mjs").Span} Span */
 /** @typedef {ReturnType<typeof boxSums>} BoxSums */
 
 const AWAITED = "\u2026";
-/** Return the text for a figure that is counted car by car and not known: "" while the clock runs. */
-const unknownText = () => (store.clock.rate ? "" : AWAITED);
-const AS_WIDE = "0,000/h, 000 km/h";    // an invisible text, as wide as an awaited one
-const NO_CAR = "\u2013";         // the travel time if no car arrived
-const LOST = 0.05;              // of an inlet's demand: a larger loss gives a warning
 const TRAPPED = 120;            // steps of a closure after which, at most, the cars in it are counted
 
 // The table.
-
-/** Say how much of a period a detector was on; "" if it was on all the time.
- * @param {DetectorFigures} one
- * @param {number} seconds   of the period
- */
-function offText({on: steps}, seconds) {
-  if (steps === seconds) return "";
-  return steps ? `, on for ${durationText(steps)} of ${durationText(seconds)}` : "off";
-}
-
-/** Make the travel time from the inlet, at the left of a cell.
- * @param {string} text
- */
-const tripElement = (text) => element("span", text && ` ${text}`, {className: "trip"});
-
-/** Make a cell of the cars that passed, with their travel time from the inlet if it is known; below
- * it, flow and speed.
- * @param {DetectorFigures} one
- * @param {number} seconds           of the period
- * @param {number | null} travel     seconds
- */
-function flowCell(one, seconds, travel) {
-  const {cars, flow, speed} = one;
-  const parts = [flow === null ? "" : `${whole(flow)}/h`,
-                 speed === null ? "" : `${Math.round(speed)} km/h`].filter(Boolean).join(", ");
-  return element("td", whole(cars), {}, tripElement(travel === null ? "" : `${whole(travel)} s`),
-    element("small", parts + offText(one, seconds)));
-}
-
-/** Return the mean delay at a place, in seconds, of the cars that both roads have, as text; "" if it
- * is not known.
- * @param {Figures | null} exact
- * @param {number} place     the index of a detector; after the last one, the road's end
- */
-function laterText(exact, place) {
-  const later = exact ? exact.later[place].seconds : null;
-  return later === null ? "" : `${signedText(later, 1)} s`;
-}
-
-/** Make the row of travel times to the road's end: mine, shared, and the mean delay of the cars that
- * both roads have.
- * @param {Figures | null} exact
- */
-function travelRow(exact) {
-  const place = need("plan").detectors.length;
-  const text = (/** @type {number | null} */ value) =>
-    (value === null ? NO_CAR : `${whole(value)} s`);
-  const cells = !exact ? Array(3).fill(unknownText())
-    : [text(exact.after.travel[place].seconds), text(exact.before.travel[place].seconds),
-       laterText(exact, place) || NO_CAR];
-  return row(headCell("Time to the road's end", "row"), ...cells.map((cell) => element("td", cell)));
-}
-
-/** Make a row for each detector, with the same size before and after its figures arrive.
- * @param {Span} period
- * @param {Figures | null} exact
- */
-function detectorRows(period, exact) {
-  const isThere = String(store.figures.period) === String(period);
-  const counts = isThere ? store.figures.counts : null;
-  const seconds = period[1] - period[0];
-  const awaited = () => element("td", AWAITED, {},
-    element("small", AS_WIDE, {className: "awaited"}));
-  return need("plan").detectors.map((cell, index) => {
-    const head = headCell(`Cars at ${kmText(cell)} km`, "row");
-    if (!counts) return row(head, awaited(), awaited(), element("td", AWAITED));
-    const [mine, shared] = counts.map((one) => one[index]);
-    const times = exact ? [exact.after, exact.before].map(({travel}) => travel[index].seconds)
-      : [null, null];
-    return row(head, flowCell(mine, seconds, times[0]), flowCell(shared, seconds, times[1]),
-      element("td", signedText(mine.cars - shared.cars), {}, tripElement(laterText(exact, index))));
-  });
-}
 
 /** Return the vehicle hours of the minutes of a period; null if one is missing.
  * @param {RoadName} whose
@@ -112,72 +35,62 @@ function hoursOf(whose, period) {
   return minutes && sum(minutes) / HOUR;
 }
 
-/** Make a row of two values and their difference.
- * @param {string} name
- * @param {(number | null)[]} values     mine and shared; null: not known
- * @param {number} digits
- * @param {string} unknown
+/** Return the figures of a period as far as they are known before all are: the vehicle hours, and what
+ * the detectors count.
+ * @param {Span} period
+ * @returns {FigureRow[]}
  */
-function sumRow(name, [one, other], digits, unknown) {
-  const text = (/** @type {number | null} */ value) => (value === null ? unknown
-    : value.toLocaleString("en", {minimumFractionDigits: digits, maximumFractionDigits: digits}));
-  const difference = one === null || other === null ? unknown : signedText(one - other, digits);
-  return row(headCell(name, "row"), element("td", text(one)), element("td", text(other)),
-    element("td", difference));
+function countedRows(period) {
+  const {counts} = String(store.figures.period) === String(period) ? store.figures : {counts: null};
+  const hours = BOTH.map((whose) => hoursOf(whose, period));
+  const valuesOf = (/** @type {FigureHead} */ {key, of: [inlet, detector]}) => {
+    if (key === "hours") return hours;
+    if (detector === null || inlet !== null) return [null, null];
+    return [0, 1].map((side) => {
+      /** @type {Record<string, number | null>} */
+      const count = {...counts?.[side][detector]};
+      return count[key] ?? null;
+    });
+  };
+  const mean = (/** @type {number | null} */ value) => ({mean: value, half: null});
+  return (need("me").figures ?? []).map((figure) => {
+    const [mine, shared] = valuesOf(figure);
+    const change = mine === null || shared === null ? null : mine - shared;
+    return {figure, before: mean(shared), after: mean(mine), difference: mean(change), bound: "", words: ""};
+  });
 }
 
-/** Make the row of the delay on mine compared with shared, of the cars that both roads have.
- * @param {Figures | null} exact
- */
-function delayRow(exact) {
-  const text = exact ? signedText(exact.delay_hours, 1) : unknownText();
-  return row(headCell("Delay, vehicle hours", "row"), element("td", ""), element("td", ""),
-    element("td", text));
-}
-
-/** Return how to read the figures, or why some are missing.
- * @param {Figures | null} exact
- */
-function noteText(exact) {
-  if (!exact && store.clock.rate) return messages.PAUSE_FOR_FIGURES;
-  const scatter = exact ? Math.hypot(...exact.after.scatter) : 0;
-  return "Lost: demand minus cars that entered"
-    + (scatter >= 1 ? ` (\u00b1 ${whole(scatter)} by chance)` : "")
-    + ". Seconds: travel time from the inlet; on the right, delay.";
-}
-
-/** Show the known figures of the wanted period; while the clock runs, only once all are known. */
+/** Show the known figures of the wanted period; while the clock runs, only once its vehicle hours are
+ * known. */
 function showFigures() {
   const period = store.figures.wanted;
-  const hours = [hoursOf("mine", period), hoursOf("shared", period)];
-  if (store.clock.rate && hours.includes(null)) return;
+  if (store.clock.rate && BOTH.some((whose) => hoursOf(whose, period) === null)) return;
   const exact = exactOf(period);
-  const lost = exact ? [exact.after, exact.before].map((one) => sum(one.lost)) : [null, null];
+  const rows = exact ? exact.figures : countedRows(period);
   const [from, to] = period.map((step) => store.day.timeText(step));
   $("period").textContent = period[1] > period[0] ? `${from} to ${to}` : "";
-  const heads = ["mine", "shared", "mine \u2212\u00a0shared"].map((name) => headCell(name));
-  $("figures").replaceChildren(
-    element("thead", "", {}, row(element("td"), ...heads)),
-    element("tbody", "", {}, sumRow("Vehicle hours", hours, 1, AWAITED),
-      sumRow("Lost demand, cars", lost, 0, unknownText()), delayRow(exact),
-      ...detectorRows(period, exact), travelRow(exact)));
-  $("figuresNote").textContent = noteText(exact);
+  const unknown = exact ? undefined : store.clock.rate ? "" : AWAITED;
+  $("figures").replaceChildren(...figureTable("day", "mine", rows, "", unknown).children);
+  $("figuresNote").textContent = !exact && store.clock.rate ? messages.PAUSE_FOR_FIGURES
+    : wordsOf(rows) || messages.READ_FIGURES;
   showWarnings(exact);
   if (store.isOpen.asTable) showSpeeds(period);
 }
 
 // Warnings.
 
-/** Return warnings of inlets that admit clearly fewer cars than the demand, and fewer than on the
- * shared road. Arrivals are random: a loss that may be due to chance gives no warning.
+/** Return warnings of inlets that lose more cars than on the shared road.
  * @param {Figures} exact
  */
-function lostWarnings({after, before}) {
-  return need("plan").inlets.flatMap(([cell], inlet) => {
-    const [lost, asked] = [after.lost[inlet], after.asked[inlet]];
-    const isByChance = lost <= Math.max(LOST * asked, after.scatter[inlet]);
-    if (isByChance || lost <= before.lost[inlet]) return [];
-    return [messages.demandLost(kmText(cell), asked, lost)];
+function lostWarnings({figures}) {
+  const {inlets} = need("plan");
+  const rowsOf = (/** @type {string} */ key) =>
+    figures.filter(({figure}) => figure.key === (inlets.length > 1 ? `${key} at` : key));
+  const admitted = rowsOf("admitted");
+  return rowsOf("lost").flatMap(({figure, before, after}, place) => {
+    const [lost, entered] = [after.mean ?? 0, admitted[place].after.mean ?? 0];
+    return lost > (before.mean ?? 0)
+      ? [messages.demandLost(kmText(inlets[figure.of[0] ?? 0][0]), entered + lost, lost)] : [];
   });
 }
 

@@ -20,7 +20,8 @@ const FIELDS = ["limit", "watch", "demand", "inlet", "site", "slow", "start", "k
 const TOOLS = ["look", "block", "limit", "inflow", "slow", "start", "watch"];
 /** @type {Record<Store["tool"], string>} */
 const VERBS = {look: "Close cells", block: "Close", limit: "Limit", inflow: "Set demand",
-               slow: "Set slowing", start: "Set slow to start", watch: "Switch detector"};
+               slow: "Set slowing", start: "Set slow to start", watch: "Switch detector",
+               capacity: "Set capacity"};
 /** @type {Partial<Record<Store["tool"], string>>} */
 const HINTS = {look: "moves the diagram; edges of your frames can be dragged",
                block: "closes the lane; cars inside it stop until it opens"};

@@ -30,6 +30,7 @@ export function valueOfTool(kind, first, from) {
     const curve = layersOf("mine").curveAt(first, from);
     return curve ? chanceOfDemand(numberOf(form.demand), curve) : NaN;
   }
+  if (kind === "capacity") return NaN;
   const percent = numberOf(form[kind]);
   return percent >= 0 && percent <= 100 ? Math.round(percent / 100 * ALWAYS) : NaN;
 }

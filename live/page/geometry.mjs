@@ -17,7 +17,7 @@ export const MOST_OBJECTS = 600; // of a shape
 /** The kinds whose objects are zones.
  * @type {unknown[]}
  */
-export const OF_ZONES = ["limit", "slow", "start"];
+export const OF_ZONES = ["limit", "slow", "start", "capacity"];
 /** The kinds whose shapes have one object.
  * @type {unknown[]}
  */

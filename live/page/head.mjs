@@ -47,7 +47,7 @@ function showFaults() {
 /** Show other sites, each with a button that excludes it. */
 function showSites() {
   $("sites").hidden = !store.sites.length;
-  showList($("siteList"), store.sites.map(({site, when: at}) => ({key: String(site),
+  showList($("siteList"), store.sites.map(({site, when: at}) => ({key: site,
     version: String(at), make: () => element("li", `Site ${site}, last heard ${store.day.dateText(at)} `, {},
       button("Exclude", () => excludeSite(site), `site ${site}`))})));
 }

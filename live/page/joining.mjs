@@ -25,7 +25,7 @@ import {titlesOf} from "./listing.mjs";
 /** @typedef {import("./types.mjs").Pushed} Pushed */
 /** @typedef {{welcome: Welcome} | (Refusal & {seats?: Seat[]})} HelloAnswer */
 
-const TAB_FORM = 4;             // version of the protocol with the server
+const TAB_FORM = 6;             // version of the protocol with the server
 const REPLACED_SHOWN = 60_000;  // milliseconds for which the page shows that the program was restarted
 /** @type {(name: string) => string} */
 const stored = (name) => sessionStorage.getItem(name) ?? "";

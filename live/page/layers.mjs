@@ -2,7 +2,7 @@
 // the stamp of the operation that put it.
 
 import {DayClock} from "./dayclock.mjs";
-import {OF_ONE, fits} from "./geometry.mjs";
+import {fits} from "./geometry.mjs";
 import {keyOf} from "./stamps.mjs";
 
 /** @typedef {import("./types.mjs").Change} Change */
@@ -13,11 +13,10 @@ import {keyOf} from "./stamps.mjs";
 /** @typedef {import("./types.mjs").Operation} Operation */
 /** @typedef {import("./types.mjs").Plan} Plan */
 /** @typedef {import("./types.mjs").Stamp} Stamp */
-/** @typedef {import("./types.mjs").TaggedChange} TaggedChange */
 
 const MOST_SHOWN = 1000;        // rectangles of a change
 
-/** Return the value that the plan gives an object; null if it gives none (slow to start).
+/** Return the value that the plan gives an object; null if it gives none (slow to start, capacity).
  * @param {Plan} plan
  * @param {Kind} kind
  * @param {number} index
@@ -27,38 +26,24 @@ export function plannedValue(plan, kind, index) {
   if (kind === "limit") return plan.zones[index][0];
   if (kind === "slow") return plan.zones[index][1];
   if (kind === "inflow") return plan.inlets[index][1];
-  if (kind === "start") return null;
+  if (kind === "start" || kind === "capacity") return null;
   return kind === "watch" ? 1 : 0;
 }
 
-/** Return a change without the parts that do not fit this road. A change of raw edits alone has a
- * shape if its parts, apart from those with the plan's value, are one rectangle.
+/** Return a change without the parts that do not fit this road.
  * @param {Plan} plan
- * @param {TaggedChange} sent
+ * @param {Change} sent
  * @returns {Change}
  */
-function keepValid(plan, sent) {
-  const shown = sent.shown.slice(0, MOST_SHOWN).filter((part) => fits(plan, part));
-  const edits = sent.edits.filter(({kind, index, step}) =>
-    fits(plan, {kind, first: index, last: index, from: step, to: null}));
-  const isRaw = !sent.shape || !fits(plan, sent.shape);
-  const put = shown.filter(({kind, first, value}) => value !== plannedValue(plan, kind, first));
-  const [{by, ...only}] = put.length === 1 ? put : [{by: null}];
-  const isOne = "kind" in only && (only.first === only.last || !OF_ONE.includes(only.kind));
-  return {...sent, shape: !isRaw ? sent.shape : isOne ? only : null, shown, edits, isRaw};
-}
+const keepValid = (plan, sent) => ({...sent, shape: sent.shape && fits(plan, sent.shape) ? sent.shape : null,
+  shown: sent.shown.slice(0, MOST_SHOWN).filter((part) => fits(plan, part))});
 
-/** Return where changes are in force. A raw edit that sets the plan's value needs no frame.
- * @param {Plan} plan
+/** Return where changes are in force.
  * @param {Iterable<Change>} changes
  * @returns {Frame[]}
  */
-function framesOf(plan, changes) {
-  const frames = [...changes].filter(({standing}) => standing).flatMap((change) =>
-    change.shown.filter(({by}) => by === null).map((part) => ({...part, by: change})));
-  return frames.filter(({kind, first, value, by}) =>
-    !by.isRaw || value !== plannedValue(plan, kind, first));
-}
+const framesOf = (changes) => [...changes].filter(({standing}) => standing).flatMap((change) =>
+  change.shown.filter(({by}) => by === null).map((part) => ({...part, by: change})));
 
 /** Finds the curve of an inlet of a road at a step; null: it is not known yet.
  * @typedef {(road: Layers, inlet: number, step: number) => Curve | null} FindCurve
@@ -84,7 +69,7 @@ export class Layers {
     this.redo = null;           // what Redo would redo
     /** @type {{stamp: Stamp, by: string[]}[]} */
     this.blocked = [];          // what Undo passes over, and who has changed it since
-    this.frames = framesOf(plan, changes.values());
+    this.frames = framesOf(changes.values());
   }
 
   /** Apply news of the list: add, replace or remove changes, by their names.
@@ -96,7 +81,7 @@ export class Layers {
       else this.changes.set(keyOf(change.name), keepValid(this.plan, change));
     }
     [this.next, this.undo, this.redo, this.blocked] = [next, undo, redo, blocked];
-    this.frames = framesOf(this.plan, this.changes.values());
+    this.frames = framesOf(this.changes.values());
   }
 
   /** Return another road: this one, with these changes added or replaced.

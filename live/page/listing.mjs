@@ -1,8 +1,8 @@
 // What the lists of changes say: what a change is, whose, where it is in force, and what covers it.
-// `layers` belong to the road that is shown; `number` is the number of the seat that reads it.
+// `layers` belong to the road that is shown; `seat` reads it.
 
 import {isCovered, lastOf, lostOf, privateOf} from "./layers.mjs";
-import {THINGS, editsText, placesText, shapeText, thingText} from "./sentences.mjs";
+import {THINGS, placesText, shapeText, thingText} from "./sentences.mjs";
 import {byStamp, keyOf} from "./stamps.mjs";
 
 /** @typedef {import("./layers.mjs").Layers} Layers */
@@ -21,12 +21,11 @@ import {byStamp, keyOf} from "./stamps.mjs";
 const MOST_PARTS = 4;           // of a change that the list shows
 /** @type {Record<Deed, string>} */
 const DONE = {put: "put", change: "changed", withdraw: "withdrawn", top: "put on top",
-              undo: "undone", redo: "redone", edits: "edited", exclude: "excluded",
-              include: "included again"};
+              undo: "undone", redo: "redone", exclude: "excluded", include: "included again"};
 /** @type {Record<Deed, string>} */
 const DID = {put: "put it", change: "changed it", withdraw: "withdrew it", top: "put it on top",
-              undo: "undid a change to it", redo: "redid a change to it", edits: "edited there",
-              exclude: "excluded it", include: "included it again"};
+              undo: "undid a change to it", redo: "redid a change to it", exclude: "excluded it",
+              include: "included it again"};
 
 /** Return what a withdrawn change was, as text.
  * @param {Change} change
@@ -74,11 +73,10 @@ export class Words {
    * @param {Change} change
    */
   text(change) {
-    const {shape, edits, standing, note, isRaw} = change;
+    const {shape, standing, note, site} = change;
     if (!standing) return goneText(change);
-    if (change.site !== null) return `Site ${change.site} is excluded`;
-    if (shape && !(isRaw && note)) return shapeText(this.layers, shape);
-    return note || (edits.length ? editsText(this.layers, edits) : "Edits");
+    if (site !== null) return `Site ${site} is excluded`;
+    return shape ? shapeText(this.layers, shape) : note || "Change";
   }
 
   /** Return who made the last operation on a change, as text.
@@ -104,7 +102,7 @@ export class Words {
    * @param {Change} change
    */
   short(change) {
-    const value = change.shape ? thingText(this.layers, change.shape) : "edit";
+    const value = change.shape ? thingText(this.layers, change.shape) : "change";
     return `${this.whose(change)} ${value}`;
   }
 
@@ -210,16 +208,13 @@ export class Words {
 }
 
 /** Ask whether the lists show a change. They do not show the demand of the road's file. They show a
- * withdrawn change if that is not shared yet, or if others withdrew it while the seat changed it, but
- * not if it consists of raw edits that a shape has replaced.
+ * withdrawn change if that is not shared yet, or if others withdrew it while the seat changed it.
  * @param {Change} change
- * @param {Layers} layers
  * @param {number} seat
  */
-function isListed(change, layers, seat) {
+function isListed(change, seat) {
   if (change.planned) return false;
   if (change.standing) return true;
-  if (layers.find(lastOf(change).stamp)?.standing) return false;
   return privateOf(change).length > 0 || lostOf(change, seat) !== null;
 }
 
@@ -236,7 +231,7 @@ export const newestFirst = (changes) => [...changes].sort((one, other) =>
  */
 export function listChanges(layers, seat) {
   const words = new Words(layers, seat);
-  const listed = [...layers.changes.values()].filter((change) => isListed(change, layers, seat));
+  const listed = [...layers.changes.values()].filter((change) => isListed(change, seat));
   return newestFirst(listed).map((change) => ({
     change, state: words.state(change), cover: words.cover(change), lost: words.lost(change),
     text: words.text(change), meta: words.meta(change),

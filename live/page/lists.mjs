@@ -28,7 +28,7 @@ function changeButtons({change, text}) {
   /** @type {[offered: boolean, name: string, does: () => void][]} */
   const buttons = [
     [true, "Show", () => showChange(change)],
-    [change.standing && change.shape !== null, "Change", () => editInForm(change)],
+    [change.standing && change.shape !== null && change.kind !== "capacity", "Change", () => editInForm(change)],
     [change.standing, "Withdraw", () => withdraw(change)],
     [isCovered(change), "Put on top", () => putOnTop(change)],
     [privateOf(change).length > 0, "Share…", () => openPreview("share", [change])]];

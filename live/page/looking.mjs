@@ -148,16 +148,14 @@ export function showWholeRoad() {
 /** Move the diagram to a change.
  * @param {Change} change
  */
-export function showChange({shape, shown, edits}) {
+export function showChange({shape, shown}) {
   stopFollowing();
   const {extent: seen} = store;
   const boxes = shape ? [shape] : shown;
-  const starts = boxes.length ? boxes.map(({from}) => from) : edits.map(({step}) => step);
-  if (!starts.length) return;
-  const [part] = boxes.length ? boxes
-    : edits.map(({kind, index}) => ({kind, first: index, last: index}));
+  if (!boxes.length) return;
+  const [part] = boxes;
   const [from, to] = cellsOf(need("plan"), part.kind, part.first, part.last);
-  const step = Math.max(0, Math.min(...starts) - seen.span / 4);
+  const step = Math.max(0, Math.min(...boxes.map(({from: start}) => start)) - seen.span / 4);
   const isSeen = from >= seen.cell && to <= seen.cell + seen.cells;
   setExtent({step, cell: isSeen ? seen.cell : (from + to - seen.cells) / 2});
 }

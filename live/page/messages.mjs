@@ -197,6 +197,7 @@ export const NO_PICTURE =
   "The browser could not make a picture of the diagram. Make the window smaller, and try again.";
 export const SAVING = "Saving \u2026";
 export const MAKING_REPORT = "Making the report: both roads are simulated over five days \u2026";
+export const READ_FIGURES = "Delay: of cars that both roads have.";
 export const PAUSE_FOR_FIGURES =
   "Lost demand, delay and travel times are counted car by car: pause the clock to see them.";
 

@@ -36,7 +36,7 @@ import {byMeans, everyShown, partShown, viewNow} from "./view.mjs";
 const FASTEST = FASTEST_COLOUR;        // cells a step of the last colour, 135 km/h
 /** @type {Record<Kind, string>} */
 const FRAME = {block: "#8f3a00", limit: "#004a9f", slow: "#5b2a86", start: "#5b2a86",
-               inflow: "#0b5d2a", watch: "#333333"};
+               inflow: "#0b5d2a", watch: "#333333", capacity: "#8f3a00"};
 const LABEL = "600 13px system-ui, sans-serif";
 const LABEL_HIGH = 17;          // pixels
 const HALO_FROM = 16;           // pixels: larger frames have a white line around them
@@ -165,7 +165,7 @@ export function write(context, text, left, top, align = "left", colour = "#00000
 export function framesShown() {
   const {seat, name} = need("me");
   /** @type {Drawn["by"]} */
-  const own = {name: {count: 0, number: 0}, seat, who: name};
+  const own = {name: {count: 0, hash: ""}, seat, who: name};
   const shapes = whoseShown()[0] === "mine" ? waitingShapes() : [];
   const waiting = shapes.map((shape) => ({...shape, by: own, pending: true}));
   return [...layersShown().frames.filter(({by}) => !by.planned), ...waiting];

@@ -3,23 +3,18 @@
 
 import {EMPTY_OUTCOME, closePreview, confirmPreview} from "./acting.mjs";
 import {freshOf, untaken, words} from "./changes.mjs";
-import {$, activeIn, button, element, findElement, headCell, row} from "./elements.mjs";
+import {$, activeIn, button, element, findElement} from "./elements.mjs";
+import {figureTable, wordsOf} from "./figuretable.mjs";
 import {affectedBy, newestFirst, titlesOf} from "./listing.mjs";
 import {focusOnLists} from "./lists.mjs";
 import * as messages from "./messages.mjs";
-import {need, layersOf, store, watch} from "./store.mjs";
-import {kmText, plural, signedText, sum} from "./units.mjs";
+import {layersOf, store, watch} from "./store.mjs";
+import {plural} from "./units.mjs";
 
 /** @typedef {import("./listing.mjs").Words} Words */
 /** @typedef {import("./types.mjs").Change} Change */
 /** @typedef {import("./types.mjs").Figures} Figures */
 /** @typedef {import("./types.mjs").Preview} Preview */
-/** @typedef {import("./types.mjs").RoadFigures} RoadFigures */
-/** @typedef {import("./types.mjs").Span} Span */
-
-const READ_BOTH = "Lost demand is the number of cars that wanted to enter minus the number that "
-  + "entered; a car that did not enter adds no vehicle hours. Seconds are counted from the inlet; "
-  + "their change is the mean delay of the cars that both roads have.";
 
 /** @param {[text: string, hint: string]} item */
 const changeItem = ([text, hint]) => element("li", text, {},
@@ -98,77 +93,12 @@ function coversOf(changes, said) {
 }
 
 /** Return the table of figures.
- * @param {Figures} figures
+ * @param {Figures} said
  */
-function figuresTable({before, after, delay_hours: delay, later, from, to}) {
-  /** @type {FigureLine[]} */
-  const lines = [["Vehicle hours", before.vehicle_hours, after.vehicle_hours, 1],
-                 ["Cars admitted", sum(before.entered), sum(after.entered), 0],
-                 ["Lost demand, cars", sum(before.lost), sum(after.lost), 0],
-                 ...lostLines(before.lost, after.lost),
-                 ["Delay of the cars that both roads have, vehicle hours", null, delay, 1],
-                 ...placeLines(before, after, later)];
-  return element("div", "", {}, previewTable([from, to], lines),
-    element("p", READ_BOTH, {className: "hint"}));
-}
-
-/** Return the flows at the detectors, and the travel times to them and to the end of the road, with
- * the delay of the cars that both roads have.
- * @param {RoadFigures} before
- * @param {RoadFigures} after
- * @param {Figures["later"]} later
- * @returns {FigureLine[]}
- */
-function placeLines(before, after, later) {
-  const {detectors} = need("plan");
-  /** @type {FigureLine[]} */
-  const flows = detectors.map((cell, index) =>
-    [`Cars an hour at ${kmText(cell)} km`, before.flows[index].flow, after.flows[index].flow, 0]);
-  const names = [...detectors.map((cell) => `Seconds to ${kmText(cell)} km`),
-                 "Seconds to the road's end"];
-  /** @type {FigureLine[]} */
-  const times = names.map((name, place) =>
-    [name, before.travel[place].seconds, after.travel[place].seconds, 0, later[place].seconds]);
-  return [...flows, ...times];
-}
-
-/** Return the lost demand of each inlet, if there are several.
- * @param {number[]} before
- * @param {number[]} after
- * @returns {FigureLine[]}
- */
-function lostLines(before, after) {
-  const {inlets} = need("plan");
-  return inlets.length === 1 ? [] : inlets.map(([cell], inlet) =>
-    [`\u2013 at ${kmText(cell)} km`, before[inlet], after[inlet], 0]);
-}
-
-/**
- * A line of the table. `change` is by default `after` minus `before`; if `before` is null, only the
- * change is shown.
- * @typedef {[name: string, before: number | null, after: number | null, digits: number,
- *            change?: number | null]} FigureLine
- */
-
-/** Return a table with the columns before, after and change.
- * @param {Span} period
- * @param {FigureLine[]} lines
- */
-function previewTable([from, to], lines) {
-  /** @type {(value: number | null, digits: number) => string} */
-  const number = (value, digits) => (value === null ? "" : value.toLocaleString("en",
-    {minimumFractionDigits: digits, maximumFractionDigits: digits}));
-  /** @type {(value: number | null, digits: number) => string} */
-  const change = (value, digits) => (value === null ? "" : signedText(value, digits));
-  /** @type {(line: FigureLine) => HTMLElement} */
-  const lineOf = ([name, one, other, digits, more = other === null ? null : other - (one ?? 0)]) =>
-    row(headCell(name, "row"), element("td", number(one, digits)),
-      element("td", one === null ? "" : number(other, digits)), element("td", change(more, digits)));
-  const table = element("table", "", {}, element("caption", `${store.day.timeText(from)} to ${store.day.timeText(to)}`),
-    element("thead", "", {}, row(element("td"),
-      ...["before", "after", "change"].map((name) => headCell(name)))),
-    element("tbody", "", {}, ...lines.map(lineOf)));
-  return element("div", "", {className: "scrolled"}, table);
+function figuresTable({figures, from, to}) {
+  const caption = `${store.day.timeText(from)} to ${store.day.timeText(to)}`;
+  return element("div", "", {}, element("div", "", {className: "scrolled"}, figureTable("preview", "preview", figures, caption)),
+    element("p", [messages.READ_FIGURES, wordsOf(figures)].join(" ").trim(), {className: "hint"}));
 }
 
 /** Listen to the store. */

@@ -12,7 +12,7 @@ import * as messages from "./messages.mjs";
 import {drawDiagram, legendEntries} from "./picture.mjs";
 import {claimFileName} from "./saving.mjs";
 import {need, layersOf, now, store, tell} from "./store.mjs";
-import {csvOf, tableOfChanges, tableOfDays, tableOfFigures, tableOfTravel} from "./tables.mjs";
+import {csvOf, tableOfChanges, tableOfFigures, tableOfTravel} from "./tables.mjs";
 import {METRES_A_CELL, kmText, plural} from "./units.mjs";
 import {partShown, periodShown} from "./view.mjs";
 
@@ -159,7 +159,7 @@ function comparedText(from, to) {
 
 /** Save the figures of the roads that are compared: those of many days if these are shown. */
 async function saveFigures() {
-  const [plan, {at, name}] = [need("plan"), need("me")];
+  const {at, name} = need("me");
   const of = comparedNow();
   const whose = of === "preview" ? "before-after" : `${name}-shared`;
   const days = daysShown()?.said;
@@ -169,13 +169,13 @@ async function saveFigures() {
     return;
   }
   if (days) {
-    saveLines(`${comparedText(from, to)}, ${plural(days.days, "day")}`, tableOfDays(plan, of, days),
+    saveLines(`${comparedText(from, to)}, ${plural(days.days, "day")}`, tableOfFigures(of, days),
       `figures-${days.days}-days.csv`, whose, [from, to]);
     return;
   }
   const said = await askUntilFree({figures: {at, of, from, to}});
   if (said && !("refused" in said)) {
-    saveLines(comparedText(from, to), tableOfFigures(plan, of, said), "figures.csv", whose, [from, to]);
+    saveLines(comparedText(from, to), tableOfFigures(of, said), "figures.csv", whose, [from, to]);
   }
 }
 

@@ -5,7 +5,6 @@
 import {OF_ZONES, cellsOf} from "./geometry.mjs";
 import {chanceText, demandOfChance, kmText, limitText, metresText, plural, whole} from "./units.mjs";
 
-/** @typedef {import("./types.mjs").Edit} Edit */
 /** @typedef {import("./types.mjs").Kind} Kind */
 /** @typedef {import("./types.mjs").Plan} Plan */
 /** @typedef {import("./types.mjs").Shape} Shape */
@@ -37,6 +36,7 @@ export function valueText(road, kind, value, index, step, demand) {
   if (kind === "watch") return value ? "Detector on" : "Detector off";
   if (kind === "slow") return `Slowing ${chanceText(value)}`;
   if (kind === "start") return `Slow to start ${chanceText(value)}`;
+  if (kind === "capacity") return `Capacity ${whole(value)} cars/h`;
   const curve = demand === undefined ? road.curveAt(index, step) : null;
   const cars = curve ? demandOfChance(value, curve) : demand;
   return cars === undefined ? "Demand that is being measured" : `Demand ${whole(cars)} cars/h`;
@@ -54,7 +54,7 @@ export function shapeText(road, {kind, first, last, from, to, value, demand}) {
 
 /** @type {Record<Kind, string>} */
 export const THINGS = {limit: "Limit", block: "Closure", inflow: "Demand", watch: "Detector",
-                slow: "Slowing", start: "Slow to start"};
+                slow: "Slowing", start: "Slow to start", capacity: "Capacity"};
 
 /** Return a shape's kind and value in a few words, as text: "limit of 54 km/h".
  * @param {MeasuredRoad} road
@@ -65,31 +65,6 @@ export function thingText(road, {kind, first, from, value, demand}) {
   if (kind === "watch") return value ? "detector switched on" : "detector switched off";
   const text = valueText(road, kind, value, first, from, demand);
   return kind === "limit" ? `limit of ${text}` : text[0].toLowerCase() + text.slice(1);
-}
-
-/** Return a sentence that says what one edit of the objects first to last does.
- * @param {MeasuredRoad} road
- * @param {{kind: Kind, first: number, last: number, step: number, value: number | null}} edit
- */
-export function editText(road, {kind, first, last, step, value}) {
-  if (value !== null) return shapeText(road, {kind, first, last, from: step, to: null, value});
-  const where = placesText(road.plan, kind, first, last);
-  return `${THINGS[kind]} withdrawn, ${where}, ${road.day.spanText(step, null)}`;
-}
-
-/** Return a sentence that says what edits do: the first ones, and how many more there are.
- * @param {MeasuredRoad} road
- * @param {Edit[]} edits     at least one
- */
-export function editsText(road, edits) {
-  const [{kind, index: first, step, value}] = edits;
-  /** @type {(edit: Edit, behind: number) => boolean} */
-  const isNext = (edit, behind) => edit.kind === kind && edit.index === first + behind
-    && edit.step === step && edit.value === value;
-  const end = edits.findIndex((edit, behind) => !isNext(edit, behind));
-  const said = end < 0 ? edits.length : end;
-  const text = editText(road, {kind, first, last: first + said - 1, step, value});
-  return said < edits.length ? `${text}, and ${plural(edits.length - said, "more edit")}` : text;
 }
 
 /** Return a hint that a tool sets whole zones; "" for kinds whose objects are not zones.

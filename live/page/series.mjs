@@ -20,7 +20,7 @@ import {MINUTE, kmText, whole} from "./units.mjs";
  */
 
 const COLOURS = ["#0072b2", "#c24e00"];        // as in the report: the road before, and after
-const LEFT = 44, RIGHT = 6, TOP = 4, BOTTOM = 16;       // pixels around a plot
+const LEFT = 44, RIGHT = 6, TOP = 8, BOTTOM = 16;       // pixels around a plot: labels are not clipped
 const TALL_ENOUGH = 880;        // pixels: the height of a window from which it starts open
 const MOST_POINTS = 720;        // minutes of entry that are drawn
 
@@ -56,11 +56,11 @@ function figuresNow() {
 function travelChart() {
   const figures = figuresNow();
   if (!figures) return null;
-  const {from, to, before, after} = figures;
+  const {from, to, entries: {before, after}} = figures;
   const minutes = Math.ceil((to - from) / MINUTE);
   if (minutes > MOST_POINTS) return null;
   const place = store.series.end ?? need("plan").detectors.length;
-  const sides = [before, after].map(({entries}) => {
+  const sides = [before, after].map((entries) => {
     const byMinute = new Map(entries.map(({step, trips}) => [(step - from) / MINUTE, trips[place].seconds]));
     return Array.from({length: minutes}, (_, minute) => byMinute.get(minute) ?? null);
   });

@@ -6,9 +6,10 @@
  * @param {Stamp} one
  * @param {Stamp} other
  */
-export const byStamp = (one, other) => one.count - other.count || one.number - other.number;
+export const byStamp = (one, other) =>
+  one.count - other.count || Number(one.hash > other.hash) - Number(one.hash < other.hash);
 
 /** Return a stamp as the key of a map.
  * @param {Stamp} stamp
  */
-export const keyOf = ({count, number}) => `${count},${number}`;
+export const keyOf = ({count, hash}) => `${count}.${hash}`;

@@ -64,7 +64,7 @@ import {HOUR} from "./units.mjs";
  * @property {Wishes | null} wishes    as whom to join
  * @property {Hello | null} hello
  * @property {string} brokerText       the last sentence of the broker
- * @property {{site: number, when: number}[]} sites     other sites, and when each was heard last
+ * @property {{site: string, when: number}[]} sites     other sites, and when each was heard last
  * @property {string[]} siteFaults     what is wrong with sites
  * @property {string} programNote      a note that the program is not proved; "": it is
  * @property {string} closedNote       the note that this browser has closed

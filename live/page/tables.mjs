@@ -3,14 +3,12 @@
 
 import {Words} from "./listing.mjs";
 import {byStamp} from "./stamps.mjs";
-import {MINUTE, kmOf, plural, roundedKm, sum} from "./units.mjs";
+import {MINUTE, kmOf, plural, roundedKm} from "./units.mjs";
 
 /** @typedef {import("./dayclock.mjs").DayClock} DayClock */
-/** @typedef {import("./types.mjs").DaysFigures} DaysFigures */
-/** @typedef {import("./types.mjs").DetectorFigures} DetectorFigures */
+/** @typedef {import("./types.mjs").FigureRow} FigureRow */
 /** @typedef {import("./types.mjs").Figures} Figures */
 /** @typedef {import("./types.mjs").Plan} Plan */
-/** @typedef {import("./types.mjs").RoadFigures} RoadFigures */
 /** @typedef {import("./layers.mjs").Layers} Layers */
 /** @typedef {string | number} Cell */
 /** @typedef {"before" | "after"} Side              of two roads that are compared */
@@ -58,43 +56,21 @@ export const ORDER = {mine: [["after", "mine"], ["before", "shared"]],
 /** @param {Comparison} of */
 const changeOf = (of) => (of === "mine" ? "mine minus shared" : "after minus before");
 
-/** Of each inlet, in cars.
- * @type {[name: string, cars: (side: RoadFigures) => number[]][]}
- */
-const OF_INLETS = [["demand", ({asked}) => asked], ["admitted cars", ({entered}) => entered],
-                   ["lost demand", ({lost}) => lost]];
-/** Of each detector.
- * @type {[name: string, unit: string, value: (one: DetectorFigures) => Figure][]}
- */
-const OF_DETECTORS = [["cars", "cars", ({cars}) => cars], ["flow", "cars/h", ({flow}) => flow],
-                      ["time-mean speed", "km/h", ({speed}) => speed], ["time on", "s", ({on}) => on]];
-
-/** Return the table of a period: what is counted car by car, and what detectors count.
- * @param {Plan} plan
+/** Return the table of figures: of a day, or means of many days, each with half the width of its
+ * interval.
  * @param {Comparison} of
- * @param {Figures} said
+ * @param {{figures: FigureRow[], days?: number}} said
+ * @returns {Cell[][]}
  */
-export function tableOfFigures({inlets, detectors}, of, said) {
+export function tableOfFigures(of, {figures, days}) {
   const [[one, first], [other, second]] = ORDER[of];
-  /** @type {(name: string, unit: string, valueOf: (side: RoadFigures) => Figure) => string[]} */
-  const lineOf = (name, unit, valueOf) => {
-    const [left, right] = [valueOf(said[one]), valueOf(said[other])];
-    const change = of === "mine" ? difference(left, right) : difference(right, left);
-    return [name, unit, figureText(left), figureText(right), figureText(change)];
-  };
-  const atInlets = inlets.flatMap(([cell], inlet) => OF_INLETS.map(([name, cars]) =>
-    lineOf(`${name} at ${kmText(cell)} km`, "cars", (side) => cars(side)[inlet])));
-  const atDetectors = detectors.flatMap((cell, index) => OF_DETECTORS.map(([name, unit, value]) =>
-    lineOf(`${name} at ${kmText(cell)} km`, unit, (side) => value(side.flows[index]))));
-  const places = [...detectors.map((cell) => `${kmText(cell)} km`), "the road's end"];
-  const times = places.flatMap((place, index) => [
-    lineOf(`travel time to ${place}`, "s", (side) => side.travel[index].seconds),
-    [`delay of the cars that both roads have to ${place}`, "s", "", "", figureText(said.later[index].seconds)]]);
-  return [["figure", "unit", first, second, changeOf(of)],
-          lineOf("vehicle hours", "h", (side) => side.vehicle_hours),
-          ["delay of the cars that both roads have", "vehicle hours", "", "", figureText(said.delay_hours)],
-          ...OF_INLETS.map(([name, cars]) => lineOf(name, "cars", (side) => sum(cars(side)))),
-          ...atInlets, ...atDetectors, ...times];
+  const withHalves = (/** @type {Cell[]} */ heads) => heads.flatMap((head) => (days ? [head, "\u00b1"] : [head]));
+  const hasBounds = figures.some(({bound}) => bound);
+  return [[days ? `mean of ${plural(days, "day")}` : "figure", "unit", ...withHalves([first, second, changeOf(of)]),
+           ...(hasBounds ? ["bound"] : [])],
+          ...figures.map(({figure: {label, unit}, bound, ...row}) => [label, unit,
+            ...[row[one], row[other], row.difference].flatMap(({mean, half}) =>
+              [mean, half].slice(0, days ? 2 : 1).map(figureText)), ...(hasBounds ? [bound] : [])])];
 }
 
 /** Return the table of travel times by the minute of entry: a line for each minute and place.
@@ -107,7 +83,7 @@ export function tableOfTravel({detectors}, of, said, day) {
   const [[one, first], [other, second]] = ORDER[of];
   /** @type {(side: Side, step: number, place: number) => Figure[]} */
   const cellsOf = (side, step, place) => {
-    const trip = said[side].entries.find((entry) => entry.step === step)?.trips[place];
+    const trip = said.entries[side].find((entry) => entry.step === step)?.trips[place];
     return [trip?.cars ?? 0, trip?.seconds];
   };
   const places = [...detectors.map((cell) => `${kmText(cell)} km`), "the road's end"];
@@ -121,34 +97,6 @@ export function tableOfTravel({detectors}, of, said, day) {
             const change = of === "mine" ? difference(seconds, theirs) : difference(theirs, seconds);
             return [day.timeText(step), place, ...[cars, seconds, others, theirs, change].map(figureText)];
           }))];
-}
-
-/** Return the name of a figure of many days, and its unit.
- * @param {Plan} plan
- * @param {string} name
- */
-function nameOfDays({detectors}, name) {
-  const [what, index] = name.split(" ");
-  const cell = detectors[Number(index)];
-  const place = cell === undefined ? "the road's end" : `${kmText(cell)} km`;
-  /** @type {Record<string, [name: string, unit: string]>} */
-  const names = {vehicle_hours: ["vehicle hours", "h"], lost: ["lost demand", "cars"],
-                 delay: ["delay of the cars that both roads have", "vehicle hours"],
-                 cars: [`cars at ${place}`, "cars"], seconds: [`travel time to ${place}`, "s"]};
-  return names[what];
-}
-
-/** Return the table of many days: each mean with half the width of its interval.
- * @param {Plan} plan
- * @param {Comparison} of
- * @param {DaysFigures} said
- */
-export function tableOfDays(plan, of, {figures, days}) {
-  const [[one, first], [other, second]] = ORDER[of];
-  return [[`mean of ${plural(days, "day")}`, "unit", first, "\u00b1", second, "\u00b1", changeOf(of),
-           "\u00b1"],
-          ...figures.map((figure) => [...nameOfDays(plan, figure.name),
-            ...[figure[one], figure[other], figure.difference].flatMap(({mean, half}) => [mean, half].map(figureText))])];
 }
 
 /** Return the table of the history of a road: who did what and when, where it is in force, and what

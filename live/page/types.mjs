@@ -2,24 +2,22 @@
 // file, as tsconfig.json says. Cells are 7.5 m long and steps take 1 s.
 
 /**
- * The name of an operation: a count, and the number of the seat that made it. Of two stamps the
- * greater one is the later.
- * @typedef {{count: number, number: number}} Stamp
+ * The name of an operation: a count, and a hash of what it does. Of two stamps the greater one is the
+ * later.
+ * @typedef {{count: number, hash: string}} Stamp
  *
  * What a change sets: a closure, a speed limit, a slowing chance, a slow-to-start chance, a demand,
- * or a detector that is on.
- * @typedef {"block" | "limit" | "slow" | "start" | "inflow" | "watch"} Kind
+ * a detector that is on, or the capacity of zones.
+ * @typedef {"block" | "limit" | "slow" | "start" | "inflow" | "watch" | "capacity"} Kind
  *
  * Objects `first` to `last` have the value from step `from` until step `to`; `to` null: for ever.
- * `demand` is the demand that an inflow was put for, in cars per hour, if there is one.
+ * `demand` is the demand that an inflow was put for, in cars per hour, if there is one. A capacity is
+ * in cars per hour, and `measured` are the limit and the two chances that its zones have.
  * @typedef {{kind: Kind, first: number, last: number, from: number, to: number | null,
- *            value: number, demand?: number}} Shape
+ *            value: number, demand?: number, measured?: number[]}} Shape
  *
  * A part of a change. `by` names the change that covers it there; null: it is in force.
  * @typedef {Shape & {by: Stamp | null}} Rectangle
- *
- * One object has a value from a step on, until the next edit of it; null withdraws the edit.
- * @typedef {{kind: Kind, index: number, step: number, value: number | null}} Edit
  *
  * @typedef {[cells: number, steps: number]} Stride
  * @typedef {[cell: number, step: number]} Place
@@ -43,7 +41,7 @@
 
 /**
  * What an operation does to a change.
- * @typedef {"put" | "change" | "withdraw" | "top" | "undo" | "redo" | "edits" | "exclude"
+ * @typedef {"put" | "change" | "withdraw" | "top" | "undo" | "redo" | "exclude"
  *           | "include"} Deed
  */
 
@@ -64,9 +62,6 @@
  */
 
 /**
- * A change as the server sends it, before parts of other roads are removed.
- * @typedef {Omit<Change, "isRaw">} TaggedChange
- *
  * A change that leaves the list.
  * @typedef {{name: Stamp, gone: true}} Gone
  */
@@ -76,7 +71,7 @@
  * @typedef {object} Change
  * @property {Stamp} name
  * @property {Kind | "site" | null} kind
- * @property {Shape | null} shape     of raw edits: what they put, if that is one rectangle
+ * @property {Shape | null} shape
  * @property {string} who
  * @property {string} note
  * @property {number} when
@@ -84,9 +79,7 @@
  * @property {boolean} shared
  * @property {Rectangle[]} shown
  * @property {Operation[]} operations
- * @property {Edit[]} edits
- * @property {boolean} isRaw          it consists of raw edits alone
- * @property {number | null} site     the site that it excludes
+ * @property {string | null} site     the site that it excludes
  * @property {Rectangle[] | null} [was]
  * @property {boolean} [planned]      it is the demand of the road's file
  * @property {number} [seat]          of this server that made it, if one did
@@ -95,7 +88,7 @@
 /**
  * The changes that differ from an earlier version of the list.
  * @typedef {object} ListNews
- * @property {(TaggedChange | Gone)[]} layers
+ * @property {(Change | Gone)[]} layers
  * @property {number} next            the version that they lead to
  * @property {number} [since]         the version from which they lead
  * @property {boolean} more           more changes follow them
@@ -125,19 +118,6 @@
  */
 
 /**
- * What is counted on one road, in a period.
- * @typedef {object} RoadFigures
- * @property {number} vehicle_hours
- * @property {number[]} asked         cars that want to enter at each inlet
- * @property {number[]} entered       cars that entered at each inlet
- * @property {number[]} lost          cars of lost demand at each inlet
- * @property {number[]} scatter       the random variation of the demand of each inlet, in cars
- * @property {DetectorFigures[]} flows
- * @property {Trip[]} travel          to each detector, and last to the road's end
- * @property {Entry[]} entries        travel times by the minute of entry, in the order of minutes
- */
-
-/**
  * What a detector counted: flow in cars per hour, null if it was off; speed in km/h, null if no car
  * passed; and the seconds for which it was on.
  * @typedef {{cars: number, speeds: number, flow: number | null, speed: number | null, on: number}}
@@ -151,23 +131,27 @@
  */
 
 /**
- * What is counted on two roads, car by car.
- * @typedef {object} Figures
- * @property {number} from            step
- * @property {number} to
- * @property {RoadFigures} before
- * @property {RoadFigures} after
- * @property {number} delay_hours     vehicle hours
- * @property {Trip[]} later           the delay at each place of the cars that both roads have
- */
-
-/**
- * A mean of days, with the half-width of its 95 % interval; null: there was one day.
- * @typedef {{mean: number, half: number | null}} Mean
+ * A figure: its key, the indexes of its inlet and its detector, its name without and with its unit,
+ * and its decimals.
+ * @typedef {{key: string, of: [inlet: number | null, detector: number | null], label: string,
+ *            unit: string, title: string, digits: number}} FigureHead
  *
- * @typedef {{name: string, before: Mean, after: Mean, difference: Mean}} DaysFigure
- * @typedef {{from: number, to: number, days: number, stopped: boolean, figures: DaysFigure[]}}
+ * A mean of days, with the half-width of its 95 % interval; null: there was one day. A mean that is
+ * null is not known.
+ * @typedef {{mean: number | null, half: number | null}} Mean
+ *
+ * A figure of two roads. `bound` says how the true one relates to it, and `words` is a sentence that
+ * it needs, if there are any.
+ * @typedef {{figure: FigureHead, before: Mean, after: Mean, difference: Mean, bound: string,
+ *            words: string}} FigureRow
+ *
+ * The figures of two roads over many days.
+ * @typedef {{from: number, to: number, days: number, stopped: boolean, figures: FigureRow[]}}
  *   DaysFigures
+ *
+ * The figures of two roads, and their travel times by the minute of entry, in the order of minutes.
+ * @typedef {{from: number, to: number, figures: FigureRow[], entries: {before: Entry[], after: Entry[]}}}
+ *   Figures
  */
 
 /**
@@ -175,7 +159,6 @@
  * @typedef {object} Welcome
  * @property {string} at              the name of the seat's road
  * @property {number} seat
- * @property {number} number          the seat's, in stamps
  * @property {string} name
  * @property {string} key             the tab has its seat again with this when it is reloaded
  * @property {Plan} plan
@@ -189,6 +172,7 @@
  * @property {WireDay | null} [day]
  * @property {number | null} [demand_end]     the step at which the demand profile of the file ends
  * @property {string} [road]          the name of the road's file
+ * @property {FigureHead[]} [figures]
  */
 
 /**
@@ -209,7 +193,7 @@
  * @typedef {object} Broker
  * @property {string} state           "away": there is no broker
  * @property {number} [unsent]        changes that are not sent yet
- * @property {{site: number, when: number}[]} [sites]
+ * @property {{site: string, when: number}[]} [sites]
  * @property {string[]} [told]        sentences, the newest last
  * @property {string[]} [stays]       what is wrong now
  * @property {boolean} [sealed]       false: messages of sites are not authenticated
@@ -329,20 +313,20 @@
 // Answers as the server sends them: positional arrays, which decoding.mjs reads.
 
 /**
- * @typedef {[count: number, number: number]} WireStamp
+ * @typedef {[count: number, hash: string]} WireStamp
  * @typedef {[kind: Kind, first: number, last: number, from: number, to: number | null,
- *            value: number]} WireShape
+ *            value: number | number[]]} WireShape
  * @typedef {[cars: number, seconds: number | null]} WireTrip
- * @typedef {[mean: number, half: number | null]} WireMean
+ * @typedef {[mean: number | null, half: number | null]} WireMean
  *
  * @typedef {Omit<Operation, "stamp" | "undoes" | "lost" | "shape">
  *   & {stamp: WireStamp, undoes?: WireStamp | null, lost: WireStamp | null,
  *      shape?: WireShape | null, demand?: unknown}} WireOperation
  *
- * Another site may have made shapes, parts and edits: they may be anything.
- * @typedef {Omit<Change, "name" | "shape" | "shown" | "operations" | "edits" | "isRaw" | "site" | "was">
- *   & {name: WireStamp, shape: unknown, shown: unknown, operations: WireOperation[], edits?: unknown,
- *      was?: unknown, demand?: unknown}} WireChange
+ * Another site may have made shapes and parts: they may be anything.
+ * @typedef {Omit<Change, "name" | "shape" | "shown" | "operations" | "site" | "was">
+ *   & {name: WireStamp, shape?: unknown, shown: unknown, operations: WireOperation[],
+ *      site?: string | null, was?: unknown, demand?: unknown}} WireChange
  * @typedef {{name: WireStamp, gone: true}} WireGone
  *
  * @typedef {object} WireLayers
@@ -354,12 +338,12 @@
  * @property {WireStamp | null} [redo]
  * @property {{stamp: WireStamp, by: string[]}[]} [blocked]
  *
- * @typedef {Omit<RoadFigures, "travel" | "entries">
- *   & {travel: WireTrip[], travel_by_entry?: Record<string, WireTrip[]>}} WireRoadFigures
- * @typedef {Omit<Figures, "before" | "after" | "later">
- *   & {before: WireRoadFigures, after: WireRoadFigures, later: WireTrip[]}} WireFigures
- * @typedef {{name: string, before: WireMean, after: WireMean, difference: WireMean}} WireDaysFigure
- * @typedef {Omit<DaysFigures, "figures"> & {figures?: WireDaysFigure[]}} WireDays
+ * @typedef {Omit<FigureRow, "before" | "after" | "difference">
+ *   & {before: WireMean, after: WireMean, difference: WireMean}} WireFigureRow
+ * @typedef {Record<string, WireTrip[]>} WireEntries
+ * @typedef {Omit<Figures, "figures" | "entries">
+ *   & {figures: WireFigureRow[], entries: {before: WireEntries, after: WireEntries}}} WireFigures
+ * @typedef {Omit<DaysFigures, "figures"> & {figures?: WireFigureRow[]}} WireDays
  * @typedef {WireLayers & Pick<Done, "touched" | "us"> & {stamp: WireStamp}} WireDone
  * @typedef {Omit<Answers, "gesture" | "again" | "site" | "undo" | "take" | "layers" | "preview"
  *                         | "figures" | "days">

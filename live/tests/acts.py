@@ -8,19 +8,21 @@ import signal
 from typing import Any
 
 from faulty import Bus, Here
+from figures_told import at_inlets, value
 from server.tabs.client import RefusedReply, Seat
 from server.tabs.refusals import Refused
 from server.model.operations import Stamp
 from running import SMALL, PATIENCE, Case, descendants, until
 
 LIMIT = ["limit", 2, 50]
+ELSEWHERE = "elsewhere-0123abcd"  # a site that does not exist
 CLOSED = ["block", 60, 69, 30, 60, 1]
 SLOW = ["limit", 1, 3, 20, 80, 2]
 
 
-async def put_edits(seat: Seat, key: str, *edits: list[Any], **more: Any) -> Stamp:
-    """Put raw edits. Return the stamp."""
-    return (await seat.ask("gesture", key=key, edits=list(edits), **more))["stamp"]
+def limit(value: int) -> list[Any]:
+    """Return a shape at LIMIT, without an end."""
+    return ["limit", 2, 2, 50, None, value]
 
 
 async def put_layer(seat: Seat, key: str, shape: list[Any] | None, **more: Any) -> Stamp:
@@ -40,9 +42,9 @@ async def numbers(seat: Seat, at: str = "") -> dict[tuple[Any, ...], int]:
     return {tuple(edit[:3]): edit[5] for edit in edits if edit[5] is not None}
 
 
-async def lines(seat: Seat, at: str = "") -> dict[tuple[int, ...], Any]:
+async def lines(seat: Seat, at: str = "") -> dict[tuple[Any, ...], Any]:
     """Return the whole list of changes, by name."""
-    found: dict[tuple[int, ...], Any] = {}
+    found: dict[tuple[Any, ...], Any] = {}
     after, more = 0, True
     while more:
         said = await seat.ask("layers", **({"at": at} if at else {}), **{"from": after})
@@ -67,7 +69,7 @@ class Acts(Case):
     async def test_a_shape_has_one_stamp_and_touches_from_its_first_step(self) -> None:
         said = await self.ada.ask("gesture", key="1", shape=CLOSED, note=" Closed\n3\u202e km\x00 ")
         stamp = said["stamp"]
-        self.assertEqual((stamp[1], said["touched"]), (65, 30))
+        self.assertEqual((len(stamp[1]), said["touched"]), (22, 30))
         self.assertEqual(await numbers(self.ada), closed(60, 69, 30, 60))
         line: Any = said["layers"][-1]
         self.assertEqual(([line], line), (said["layers"], (await lines(self.ada))[tuple(stamp)]))
@@ -234,9 +236,10 @@ class Acts(Case):
             self.assertEqual(said.get("refused"), refusal, (shape, said))
             self.assertIn(why, said["why"])
         cases: list[tuple[str, dict[str, Any]]] = [
-            ("NoSuchChange", {"layer": [7, 65], "shape": None}), ("NoSuchChange", {"layer": "x", "top": True}),
-            ("not a command", {"layer": [7, 65]}), ("not a command", {"layer": 7, "shape": None}),
-            ("not a command", {"layer": [7, 65], "top": 1})]
+            ("NoSuchChange", {"layer": [7, "x" * 22], "shape": None}), ("NoSuchChange", {"layer": "x", "top": True}),
+            ("not a command", {"layer": [7, "x" * 22]}), ("not a command", {"layer": 7, "shape": None}),
+            ("not a command", {"layer": [7, 65], "top": True}), ("not a command", {"layer": [7, "x" * 22], "top": 1}),
+            ("not a command", {"shape": CLOSED, "edits": [["limit", 2, 50, 1]]})]
         for refusal, fields in cases:
             self.assertEqual((await self.ada.reply("gesture", at=self.ada.at, key="k", **fields))["refused"], refusal)
         self.assertEqual((await self.ada.ask("scenario"))["edits"], [])
@@ -253,64 +256,43 @@ class Acts(Case):
             await ada.ask("undo", key="u", stamp=said["stamp"])
             self.assertEqual(len(await numbers(ada)), 4 * 1_200)
 
-    # Raw edits
-
-    async def test_raw_edits_have_one_stamp(self) -> None:
-        edits = [["block", 60, 30, 1], ["block", 61, 20, 1], ["block", 61, 40, 0]]
-        said = await self.ada.ask("gesture", key="1", edits=edits)
-        self.assertEqual((said["stamp"][1], said["touched"]), (65, 20))
-        held = (await self.ada.ask("scenario"))["edits"]  # whose stamps are the server's own
-        self.assertEqual([[*edit[:3], edit[5]] for edit in held], edits)
-        line, = said["layers"]
-        self.assertEqual((line["edits"], line["shape"], line["kind"]), (edits, None, "block"))
-        self.assertEqual(line["shown"], [["block", 61, 61, 20, 40, 1, None], ["block", 60, 60, 30, None, 1, None],
-                                         ["block", 61, 61, 40, None, 0, None]])
-
-    async def test_a_shape_takes_the_place_of_raw_edits(self) -> None:
-        line = await put_edits(self.ada, "1", ["limit", 2, 50, 1], ["limit", 2, 60, 5], shape=["limit", 2, 2, 50, 60, 1])
-        self.assertEqual((await lines(self.ada))[tuple(line)]["shape"], ["limit", 2, 2, 50, 60, 1])
-        stamp = await put_layer(self.ada, "2", ["limit", 2, 2, 50, 70, 1], layer=line)
-        self.assertEqual(await numbers(self.ada), {("limit", 2, 50): 1, ("limit", 2, 70): 5})
-        self.assertEqual({name: one["shape"] for name, one in (await lines(self.ada)).items() if one["standing"]},
-                         {tuple(line): ["limit", 2, 2, 50, 70, 1]})  # the line's stamp still names one layer
-        await self.ada.ask("undo", key="3", stamp=stamp)
-        self.assertEqual(await numbers(self.ada), {("limit", 2, 50): 1, ("limit", 2, 60): 5})
-        await put_layer(self.ada, "4", None, layer=line)
-        self.assertEqual(await numbers(self.ada), {})
-
-    async def test_the_commands_edit_and_withdraw_of_the_format_work(self) -> None:
-        first = (await self.ada.ask("edit", object=["limit", 2], step=50, value=3))["stamp"]
-        self.assertEqual(await limit_at(self.ada), 3)
-        self.assertGreater((await self.ada.ask("withdraw", object=["limit", 2], step=50))["stamp"], first)
-        self.assertEqual(await limit_at(self.ada), None)
-
-    async def test_raw_edits_of_one_object_may_come_in_any_order(self) -> None:
-        for count, (step, value) in enumerate(((15, 1), (10, 2), (30, 4), (20, 3))):
-            await put_edits(self.ada, f"{count}", ["limit", 2, step, value])
-        self.assertEqual(await numbers(self.ada), {("limit", 2, 10): 2, ("limit", 2, 15): 1, ("limit", 2, 20): 3,
-                                                   ("limit", 2, 30): 4})
-        await put_edits(self.ada, "gone", ["limit", 2, 15, None])
-        self.assertEqual(await numbers(self.ada), {("limit", 2, 10): 2, ("limit", 2, 20): 3, ("limit", 2, 30): 4})
-
-    async def test_refusals_have_sentences_and_change_nothing(self) -> None:
-        many = [["block", cell, step, 1] for cell in range(100) for step in range(12)] + [["block", 100, 0, 1]]
-        cases: list[tuple[str, str, list[Any]]] = [
-            ("NoObject", "no zone 99", [["limit", 99, 5, 1]]), ("ValueOutOfRange", "0 to 9", [["limit", 1, 5, 10]]),
-            ("Step", "at most 1048575", [["limit", 1, 1_048_576, 1]]),
-            ("not a command", "two edits of one object at one step", [["limit", 1, 5, 1], ["limit", 1, 5, 2]]),
-            ("not a command", "is not a number", [["limit", {}, 5, 1]]),
-            ("not a command", "in quotes", [["limit", "1", 5, 1]]),
-            ("not a command", "without sign", [["limit", 1, 5.5, 1]]),
-            ("not a command", "is not a number", [["limit", 1, True, 1]]),
-            ("not a command", "is not [kind", [["limit", 1, 5]]),
-            ("not a command", "use `limit`", [["limt", 1, 5, 1]]),
-            ("not a command", "1 to 1200", []), ("TooManyEdits", "not 1201", many)]
-        for refusal, why, edits in cases:
-            said = await self.ada.reply("gesture", at=self.ada.at, key="k", edits=edits)
-            self.assertEqual(said["refused"], refusal, edits[:1])
+    async def test_malformed_shapes_are_refused_with_a_sentence(self) -> None:
+        for why, shape in (
+                ("is not a number", ["limit", {}, 1, 5, None, 1]), ("in quotes", ["limit", "1", 1, 5, None, 1]),
+                ("without sign", ["limit", 1, 1, 5.5, None, 1]), ("is not a number", ["limit", 1, True, 5, None, 1]),
+                ("use `limit`", ["limt", 1, 1, 5, None, 1]), ("is not a number", ["limit", 1, 1, 5, None, [900, 2, 3, 4]]),
+                ("is not [cars per hour", ["capacity", 1, 1, 5, None, [900, 2, 3]]), ("is not [cars per hour", ["capacity", 1, 1, 5, None, 7]),
+                ("without sign", ["capacity", 1, 1, 5, None, [900, 2, 3, -1]])):
+            said = await self.ada.reply("gesture", at=self.ada.at, key="k", shape=shape)
+            self.assertEqual(said.get("refused"), "not a command", (shape, said))
             self.assertIn(why, said["why"])
         self.assertEqual((await self.ada.ask("scenario"))["edits"], [])
-        self.assertEqual(len((await self.ada.ask("gesture", key="k", edits=many[:1_200]))["layers"]), 1)
+
+    async def test_commands_of_raw_edits_and_of_numbers_are_no_more(self) -> None:
+        for verb in ("edit", "withdraw", "numbers", "unbind"):
+            said = await self.ada.reply(verb, at=self.ada.at)
+            self.assertEqual((said["refused"], said["why"]), ("not a command", f"there is no command `{verb}`"))
+
+    async def test_a_capacity_sets_limit_slowing_and_start_and_says_where_it_does_not_hold(self) -> None:
+        made = await put_layer(self.ada, "1", ["capacity", 1, 2, 30, 60, [900, 2, 20_000, 30_000]], note="one of two lanes")
+        self.assertEqual(await numbers(self.ada), {
+            (kind, zone, step): value for kind, values in (("limit", (2, 5)), ("slow", (20_000, 6_554)), ("start", (30_000, 6_554)))
+            for zone in (1, 2) for step, value in zip((30, 60), values)})
+        line = (await lines(self.ada))[tuple(made)]
+        self.assertEqual((line["kind"], line["shape"]), ("capacity", ["capacity", 1, 2, 30, 60, [900, 2, 20_000, 30_000]]))
+        self.assertEqual(line["shown"], [["limit", 1, 2, 30, 60, 2, None], ["slow", 1, 2, 30, 60, 20_000, None],
+                                         ["start", 1, 2, 30, 60, 30_000, None]])
+        self.assertNotIn("covered", line)
+        over = await put_layer(self.ada, "2", ["slow", 2, 2, 40, 50, 7])
+        self.assertEqual((await lines(self.ada))[tuple(made)]["covered"], [
+            ["capacity", 2, 2, 40, 50, [900, 2, 20_000, 30_000], over]])
+        self.assertEqual((await numbers(self.ada))["limit", 2, 30], 2)
+        for refusal, shape in (("ValueOutOfRange", ["capacity", 1, 2, 30, 60, [900, 10, 1, 1]]), (
+                "ValueOutOfRange", ["capacity", 1, 2, 30, 60, [900, 2, 1, 65_537]]), ("NoObject", ["capacity", 5, 6, 30, 60, [900, 2, 1, 1]])):
+            self.assertEqual((await self.ada.reply("gesture", at=self.ada.at, key="k", shape=shape))["refused"], refusal, shape)
+        await self.ada.ask("send", name="shared")
+        await self.ben.ask("take", message="shared")
+        self.assertEqual(await numbers(self.ben), await numbers(self.ada))
 
     # Sharing and taking
 
@@ -473,28 +455,47 @@ class Acts(Case):
         self.assertEqual([(name, one["shape"][2]) for name, one in (await lines(self.ada)).items()], [(tuple(line), 73)])
 
     async def test_a_line_that_excludes_a_site_gets_no_shape(self) -> None:
-        out = (await self.ada.ask("site", key="out", site=9, out=True))["stamp"]
+        out = (await self.ada.ask("site", key="out", site=ELSEWHERE, out=True))["stamp"]
         acts: tuple[dict[str, Any], ...] = ({"shape": CLOSED}, {"shape": None}, {"top": True})
         for fields in acts:
-            with self.assertRaisesRegex(RefusedReply, "this line excludes a site"):
+            with self.assertRaisesRegex(RefusedReply, "include the site again that it excludes"):
                 await self.ada.ask("gesture", key="a", layer=out, **fields)
 
     async def test_only_its_site_undoes_an_exclusion(self) -> None:
         bus = Bus()
-        one, two = [await self.enterAsyncContext(Here(site=number)) for number in (1, 2)]
+        one, two = [await self.enterAsyncContext(Here(site=name)) for name in ("north", "south")]
         bus.site(one), bus.site(two)
         for here in (one, two):
             await here.join("Ada")
-        out = (await one.ask(1, "site", key="out", site=9, out=True))["stamp"]
+        out = (await one.ask(1, "site", key="out", site=ELSEWHERE, out=True))["stamp"]
         await one.share(1)
         await bus.carry()
         await two.take(1)
         with self.assertRaises(Refused) as refused:
             await two.ask(1, "undo", key="u", stamp=[*out])
         self.assertEqual((refused.exception.text, refused.exception.why),
-                         ("NothingToUndo", "only site 1 can undo its own exclusion of site 9: include that site again instead"))
+                         ("NothingToUndo", f"only site {one.lab.state.site} can undo its own exclusion of site {ELSEWHERE}: include that "
+                          "site again instead"))
         await one.ask(1, "undo", key="u", stamp="out")
         self.assertEqual(one.lab.state.seats[1].road.record.excluded, frozenset())
+
+    async def test_an_excluded_site_may_exclude_and_include_sites_and_nothing_else(self) -> None:
+        bus = Bus()
+        one, two = [await self.enterAsyncContext(Here(site=name)) for name in ("north", "south")]
+        bus.site(one), bus.site(two)
+        for here in (one, two):
+            await here.join("Ada")
+        north, south = one.lab.state.site, two.lab.state.site
+        await one.ask(1, "site", key="out", site=south, out=True)
+        await one.share(1)
+        await bus.carry()
+        await two.take(1)
+        with self.assertRaises(Refused) as refused:
+            await two.ask(1, "gesture", key="a", shape=CLOSED)
+        self.assertEqual(refused.exception.text, "SiteExcluded")
+        await two.ask(1, "site", key="out", site=north, out=True)
+        self.assertEqual(two.lab.state.seats[1].road.record.excluded, {north})
+        await two.ask(1, "gesture", key="a", shape=CLOSED)
 
     async def test_what_need_not_be_shared_is_marked_in_its_line(self) -> None:
         async with Here() as here:
@@ -520,6 +521,14 @@ class Acts(Case):
                 line, = (await here.ask(1, "layers"))["layers"]
                 self.assertEqual(line.get("demand"), demand, key)
 
+    async def test_a_demand_is_rounded_to_whole_cars_as_the_page_shows_it(self) -> None:
+        async with Here() as here:
+            await here.join("Ada")
+            for demand, whole in ((310.5, 311), (447.69, 448), (0.4, 0), (700, 700)):
+                await here.ask(1, "gesture", key=f"{demand}", shape=["inflow", 0, 0, 30, 60, 9_000], demand=demand)
+                operation = (await here.ask(1, "operations"))["operations"][-1]
+                self.assertEqual((operation["demand"], type(operation["demand"])), (whole, int))
+
     async def test_forgotten_changes_are_no_longer_listed(self) -> None:
         server = self.server(LIVE_MOST_UNDONE="30")
         async with server.seat() as ada:
@@ -536,35 +545,8 @@ class Acts(Case):
             fresh = (await lines(ada))[line]
             self.assertEqual([one["does"] for one in fresh["operations"]], ["put", *["change", "undo"] * 10])
             self.assertEqual((await ada.ask("layers", **{"from": said["next"]}))["layers"], [fresh])
-            with self.assertRaisesRegex(RefusedReply, "this seat holds no change with the name"):
+            with self.assertRaisesRegex(RefusedReply, "this seat holds no change with the stamp"):
                 await ada.ask("gesture", key="late", layer=gone, top=True)
-
-    async def test_a_list_loses_the_line_of_an_own_raw_edit_that_is_forgotten_after_another_replaced_it(self) -> None:
-        """After the own edit was forgotten, the line was listed only because the other edit named it."""
-        server = self.server(LIVE_MOST_UNDONE="12")
-        async with server.seat() as ada, server.seat("Ben") as ben:
-            line = await put_edits(ada, "gone", [*LIMIT, 2])
-            await ada.ask("undo", key="undo", stamp=line)
-            his = await put_edits(ben, "his", [*LIMIT, 3])
-            await ben.ask("send", name="shared")
-            await ada.ask("take", message="shared")
-            self.assertEqual((await lines(ada)).keys(), {tuple(line), tuple(his)})
-            listed: dict[tuple[int, ...], Any] = {}
-            after = 0
-            for count in range(11):
-                stamp = await put_layer(ada, f"g{count}", SLOW)
-                await ada.ask("undo", key=f"u{count}", stamp=stamp)
-                said = await ada.ask("layers", **{"from": after})
-                after, changed = said["next"], {tuple(one["name"]): one for one in said["layers"]}
-                listed = {name: one for name, one in {**listed, **changed}.items() if "gone" not in one}
-
-            async def is_shorter() -> bool:
-                return len((await ada.ask("operations"))["operations"]) < 24
-            await until(is_shorter, "the oldest are forgotten")
-            changed = {tuple(one["name"]): one for one in (await ada.ask("layers", **{"from": after}))["layers"]}
-            listed = {name: one for name, one in {**listed, **changed}.items() if "gone" not in one}
-            self.assertEqual(listed.keys(), {tuple(his)})
-            self.assertEqual(listed, await lines(ada))
 
     async def test_z_undoes_the_same_operations_after_a_start_that_forgets_some(self) -> None:
         """One of the operations that are kept undoes an older one."""
@@ -637,12 +619,14 @@ class Previews(Case):
     async def figures_are(self, said: Any, name: str, at: str, first: int) -> None:
         """Compare the figures of a road with those that follow from the replica's cars."""
         cars: list[Any] = [(await self.ada.ask("cars", at=at, step=step))["cars"] for step in range(first, 201)]
-        self.assertAlmostEqual(said[name]["vehicle_hours"], sum(map(len, cars[1:])) / 3_600)
+        self.assertAlmostEqual(value(said, name, "hours"), sum(map(len, cars[1:])) / 3_600)
         numbers = {car[0] for row in cars for car in row if first <= car[0] // 16 < 200}
         entered = [sum(number % 16 == inlet for number in numbers) for inlet in (0, 1)]
-        self.assertEqual(said[name]["entered"], entered)
-        counts = (await self.ada.ask("counts", at=at, **{"from": first, "to": 200}))["counts"]
-        self.assertEqual(said[name]["detectors"], counts)
+        self.assertEqual(at_inlets(said, name, "admitted"), entered)
+        counts: Any = (await self.ada.ask("counts", at=at, **{"from": first, "to": 200}))["counts"]
+        for detector, (passed, speeds) in enumerate(counts):
+            self.assertEqual(value(said, name, "cars", None, detector), passed)
+            self.assertEqual(value(said, name, "speed", None, detector), speeds / passed * 27 if passed else None)
 
     async def test_a_preview_of_sharing_compares_with_the_shared_road(self) -> None:
         said = await self.ada.ask("preview", what="share")
@@ -731,24 +715,24 @@ class Previews(Case):
             await put_layer(ada, "2", ["inflow", 1, 1, 100, 250, 65_536])
             await put_layer(ada, "3", ["inflow", 0, 0, 200, None, 0])
             said: Any = await ada.ask("figures", of="mine", **{"from": 30, "to": 290})
-            self.assertEqual(said["before"]["asked"], [(290 - 30) / 2, 0])
-            self.assertEqual(said["before"]["lost"], [0, 0])
-            self.assertEqual(said["after"]["asked"], [(200 - 30) / 2, (250 - 100) / 2])
+            self.assertEqual(at_inlets(said, "before", "demand"), [(290 - 30) / 2, 0])
+            self.assertEqual(at_inlets(said, "before", "lost"), [0, 0])
+            self.assertEqual(at_inlets(said, "after", "demand"), [(200 - 30) / 2, (250 - 100) / 2])
             for side, at in (("before", "shared"), ("after", ada.at)):
                 await ada.ask("advance", at=at, to=290)
                 rows: list[Any] = [(await ada.ask("cars", at=at, step=step))["cars"] for step in range(31, 291)]
                 cars = {car[0] for row in rows for car in row if 30 <= car[0] // 16 < 290}
                 entered = [sum(number % 16 == inlet for number in cars) for inlet in (0, 1)]
-                self.assertEqual(said[side]["entered"], entered)
-                self.assertEqual(said[side]["lost"], [asked - there for asked, there in zip(said[side]["asked"], entered)])
-            self.assertGreater(sum(said["after"]["lost"]), 60)
+                self.assertEqual(at_inlets(said, side, "admitted"), entered)
+                self.assertEqual(at_inlets(said, side, "lost"), [asked - there for asked, there in zip(at_inlets(said, side, "demand"), entered)])
+            self.assertGreater(value(said, "after", "lost"), 60)
 
 
 class Seats(Case):
     async def test_a_key_gives_the_seat_back_and_closes_the_other_tab(self) -> None:
         server = self.server()
         async with server.seat("Ada") as ada:
-            await put_edits(ada, "1", [*LIMIT, 1])
+            await put_layer(ada, "1", limit(1))
             async with server.seat(key=ada.key) as again:
                 self.assertEqual((again.at, again.welcome["name"], await limit_at(again)), ("seat1", "Ada", 1))
                 with self.assertRaisesRegex(ConnectionError, "4000"):
@@ -758,7 +742,7 @@ class Seats(Case):
     async def test_a_seat_without_a_tab_can_be_taken_over(self) -> None:
         server = self.server()
         async with server.seat("Ada") as ada, server.seat("Ben") as ben:
-            await put_edits(ada, "1", [*LIMIT, 1])
+            await put_layer(ada, "1", limit(1))
             cases: list[tuple[dict[str, Any], str]] = [
                 ({"take": 1}, "SeatConnected"), ({"name": "Ada"}, "NameTaken"), ({"take": 9}, "NoSuchSeat"),
                 ({"key": "none"}, "UnknownKey"), ({"name": " \n"}, "NoName"), ({"take": 0}, "NoSuchSeat")]
@@ -787,14 +771,14 @@ class Seats(Case):
             await put_layer(seat, "1", ["limit", 0, 0, seat.welcome["seat"], seat.welcome["seat"] + 1, 1])
             await seat.ask("send", name="shared")
         await seats[62].ask("take", message="shared")
-        self.assertEqual({name[1] for name in await lines(seats[62])}, set(range(65, 128)))
+        self.assertEqual(sorted(line["seat"] for line in (await lines(seats[62])).values()), [*range(1, 64)])
         self.assertEqual(await numbers(seats[62]), {("limit", 0, 1): 1, ("limit", 0, 64): 5})
 
     async def test_a_seat_without_anything_private_is_freed_and_clean_for_the_next(self) -> None:
         server = self.server(LIVE_DAY="1")
         async with server.seat("Ada") as ada, server.seat("Ben") as ben:
-            await put_edits(ada, "1", [*LIMIT, 1])
-            await put_edits(ben, "1", [*LIMIT, 2])
+            await put_layer(ada, "1", limit(1))
+            await put_layer(ben, "1", limit(2))
             await ada.ask("send", name="shared")
         async with server.seat("Cleo") as cleo:
             async def ada_is_gone() -> bool:
@@ -804,7 +788,7 @@ class Seats(Case):
             fill = [await self.enterAsyncContext(server.seat(f"n{count}")) for count in range(61)]
             new = next(seat for seat in fill if seat.at == "seat1")
             self.assertEqual(await numbers(new), {})
-            self.assertGreater([*await put_edits(new, "2", [*LIMIT, 3])], [1, 65])  # the new owner makes no stamp that Ada made
+            await put_layer(new, "2", limit(3))
         server.restart()
         async with server.seat(key=new.key) as new:
             self.assertEqual(await numbers(new), {("limit", 2, 50): 3})
@@ -812,16 +796,16 @@ class Seats(Case):
     async def test_a_seat_can_be_left_once_nothing_in_it_is_private(self) -> None:
         server = self.server()
         async with server.seat("Ada") as ada, server.seat("Ben") as ben:
-            await put_edits(ada, "1", [*LIMIT, 1])
+            await put_layer(ada, "1", limit(1))
             with self.assertRaisesRegex(RefusedReply, "PrivateChanges"):
                 await ada.ask("leave")
             await ada.ask("send", name="shared")
-            said = await asyncio.gather(ada.reply("gesture", at=ada.at, key="2", edits=[[*LIMIT, 2]]),
+            said = await asyncio.gather(ada.reply("gesture", at=ada.at, key="2", shape=limit(2)),
                                         ada.reply("leave", at=ada.at))
             self.assertEqual([one.get("refused") for one in said], [None, "PrivateChanges"])  # in their order
             await ada.ask("send", name="shared")
             await asyncio.gather(ada.reply("leave", at=ada.at),
-                                 ada.reply("gesture", at=ada.at, key="3", edits=[[*LIMIT, 3]]), return_exceptions=True)
+                                 ada.reply("gesture", at=ada.at, key="3", shape=limit(3)), return_exceptions=True)
             self.assertEqual(await numbers(ben, "shared"), {("limit", 2, 50): 2})
             self.assertEqual(len([one for one in server.journal() if "made" in one]), 2)
             self.assertEqual([one["name"] for one in (await ben.say("seats"))["seats"]], ["Ben"])

@@ -2,27 +2,55 @@
 from __future__ import annotations
 
 import asyncio
+import hashlib
 import json
+import math
 import os
 import shutil
 import signal
+import statistics
+import subprocess
+import sys
+import time
 from pathlib import Path
-from typing import Any, Sequence
+from typing import Any
 
 from server.tabs.client import Seat
 from zegdrut import Edit, RoadLab
+from server.model.operations import Stamp
 from server.sites.peers import BrokerState
-from running import SMALL, Broker, Case, Server, end, new_folder, until
+from server.sites.seals import Seal
+from faulty import written
+from running import SMALL, Broker, Case, Server, end, new_folder, started, until
 from server.journal.records import read_plan_line
 
 TOTALS = {"from": 0, "to": 100}
+TURNS = 6  # at most, to find out how long a gesture takes
+USUAL = 0.004  # seconds that a gesture takes on a machine that has nothing else to do
+# Publishes the messages of a file again and again, each with its topic.
+FLOOD = """
+import json, sys, time
+import paho.mqtt.client as mqtt
+port, path, most = int(sys.argv[1]), sys.argv[2], int(sys.argv[3])
+client = mqtt.Client(protocol=mqtt.MQTTv5)
+client.connect("127.0.0.1", port)
+client.loop_start()
+messages = [(topic, bytes.fromhex(text)) for topic, text in json.load(open(path))]
+began, sent = time.monotonic(), 0
+print("begins", flush=True)
+while True:
+    for topic, payload in messages:
+        client.publish(topic, payload)
+        sent += 1
+    time.sleep(max(0, began + sent / most - time.monotonic()))
+"""
 
 
-async def put(seat: Seat, *edits: list[Any]) -> Sequence[int]:
-    """Make a gesture, and share it at once."""
-    stamp: Sequence[int] = (await seat.ask("gesture", key=os.urandom(8).hex(), edits=list(edits)))["stamp"]
+async def put(seat: Seat, kind: str, index: int, begin: int, value: int, end: int | None = None) -> Stamp:
+    """Put a shape of one object, and share it at once. Return its stamp."""
+    count, name = (await seat.ask("gesture", key=os.urandom(8).hex(), shape=[kind, index, index, begin, end, value]))["stamp"]
     await seat.ask("send", name="shared")
-    return stamp
+    return count, name
 
 
 async def shared(seat: Seat) -> list[Any]:
@@ -43,8 +71,8 @@ def told(seat: Seat) -> list[str]:
 
 
 class Brokers(Case):
-    def site(self, broker: Broker, number: int, plan: dict[str, Any] | None = None) -> Server:
-        return self.server("--broker", broker.address, "--site", str(number), plan=plan)
+    def site(self, broker: Broker, name: str, plan: dict[str, Any] | None = None) -> Server:
+        return self.server("--broker", broker.address, "--site", name, plan=plan)
 
     async def same(self, *seats: Seat, edits: int) -> list[Any]:
         """Wait until all shared replicas hold the same number of edits. Then check that their rows and totals are the same, and
@@ -72,42 +100,41 @@ class Brokers(Case):
     async def test_sites_agree_whatever_happens_to_the_broker(self) -> None:
         for keeps in (True, False):
             broker = self.broker(keeps)
-            first, second = self.site(broker, 1), self.site(broker, 2)
+            first, second = self.site(broker, "north"), self.site(broker, "south")
             async with first.seat("Ada") as ada:
                 async with second.seat("Sam") as sam:
-                    await put(ada, ["limit", 2, 80, 1])
-                    await put(sam, ["limit", 2, 80, 2])  # a tie: the greater number wins
-                    self.assertEqual(await self.same(ada, sam, edits=1), [["limit", 2, 80, 1, 64, 2]])
+                    made = {await put(ada, "limit", 2, 80, 1): 1, await put(sam, "limit", 2, 80, 2): 2}
+                    self.assertEqual(await self.same(ada, sam, edits=1), [["limit", 2, 80, 1, 64, made[max(made)]]])
                     news = next(one["news"] for one in reversed(ada.received) if "news" in one)
                     self.assertIn("Sam", news["from"])
                     key = sam.key
                 second.kill()  # a site is away
-                await put(ada, ["limit", 3, 90, 3])
-                await put(ada, ["limit", 4, 91, 3])
+                await put(ada, "limit", 3, 90, 3)
+                await put(ada, "limit", 4, 91, 3)
                 broker.kill()  # with the messages that it kept for the site
-                await put(ada, ["limit", 5, 92, 3])
+                await put(ada, "limit", 5, 92, 3)
                 broker.start()
                 second.start()
                 async with second.seat(key=key) as sam:
                     await self.same(ada, sam, edits=4)
                     broker.kill(signal.SIGTERM)
-                    await put(sam, ["block", 60, 30, 1], ["block", 60, 50, 0])
+                    await put(sam, "block", 60, 30, 1, 50)
                     first.restart()
                     async with first.seat(key=ada.key) as again:
-                        await put(again, ["block", 61, 30, 1])
+                        await put(again, "block", 61, 30, 1)
                         broker.start()
-                        third = self.site(broker, 3)  # it joins late, and gets everything
+                        third = self.site(broker, "east")  # it joins late, and gets everything
                         async with third.seat("Tom") as tom:
                             await self.same(again, sam, tom, edits=7)
 
     async def test_a_title_goes_with_what_is_shared(self) -> None:
         broker = self.broker(keeps=False)
-        first, second = self.site(broker, 1), self.site(broker, 2)
+        first, second = self.site(broker, "north"), self.site(broker, "south")
         async with first.seat("Ada") as ada, second.seat("Sam") as sam:
             for number, title in enumerate(("night works", "by day")):
                 if number:
                     broker.kill()  # what waits for the broker has its title, which the journal keeps, too
-                await ada.ask("gesture", key=f"k{number}", edits=[["limit", 2, 80 + number, 1]])
+                await ada.ask("gesture", key=f"k{number}", shape=["limit", 2, 2, 80 + number, None, 1])
                 await ada.ask("send", name="shared", title=title)
                 if number:
                     first.restart()
@@ -123,32 +150,32 @@ class Brokers(Case):
 
     async def test_garbage_is_ignored_and_reported(self) -> None:
         broker = self.broker()
-        first, second = self.site(broker, 1), self.site(broker, 2)
+        first, second = self.site(broker, "north"), self.site(broker, "south")
         topic = f"road/{reference(first)}/operations"
 
         def said(*operations: Any, **more: Any) -> str:
-            return json.dumps({"form": 3, "operations": operations, **more})
+            return json.dumps({"form": 4, "operations": operations, **more})
 
-        def limit(stamp: list[Any], zone: int, step: int, **more: Any) -> dict[str, Any]:
-            return {"stamp": stamp, "sets": [[["limit", zone, step], 1]], "who": "number 70", **more}
+        def limit(count: int, zone: int, step: int, **more: Any) -> dict[str, Any]:
+            return written(count, shape=["limit", zone, zone, step, None, 1], who="Eve", **more)
         async with first.seat("Ada") as ada, second.seat("Sam") as sam:
-            await put(ada, ["limit", 1, 8, 1])
+            await put(ada, "limit", 1, 8, 1)
             await self.same(ada, sam, edits=1)
             for text, why in (
                     ("good morning", "not JSON"), ("", "not JSON"), ("[" * 3_000, "not JSON"), ("[1]", "no list"),
-                    ('{"operations":7}', "no list"), ('{"operations":[],"form":2}', "no list"),
-                    (said(7), "an operation must be a JSON object"), (said({"stamp": [1, 70]}), "the operation does nothing"),
-                    (said(limit([1, 70], 99, 8)), "no zone 99"), (said(limit([1, 3], 1, 8)), "belongs to a replica"),
-                    (said(limit([281474976710656, 70], 1, 20)), "[281474976710656, 70] of number 70 is more than a day"),
-                    (said(limit([2764800001, 70], 1, 21)), "[2764800001, 70] of number 70 is more than a day ahead"),
-                    (said(limit([1, "1"], 1, 8)), "is not a whole number"), (said(limit([1, 70], 1, 8, note="\ud800")), "not JSON"),
-                    (said({"stamp": [1, 70], "sets": [[["block", 1, step], 1] for step in range(1_202)]}), "at most 1200 raw edits")):
+                    ('{"operations":7}', "no list"), (said(limit(1, 5, 8), form=3), "no list"),
+                    (said(7), "an operation must be a JSON object"), (said(written(1)), "does nothing"),
+                    (said(limit(1, 99, 8)), "no zone 99"), (said({**limit(1, 1, 8), "stamp": [1, 3]}), "stamp"),
+                    (said({**limit(1, 1, 8), "who": "Eva"}), "the hash of its text is"),
+                    (said(limit((1 << 50) + (1 << 24) + 9, 1, 20)), "1 changes were left out, since their counts are far"),
+                    (said(limit(1 << 53, 1, 21)), "is not a whole number"), (said(limit(1, 1, 8, note="\ud800")), "not JSON"),
+                    (said(limit(1, 1, 8, site=7)), "site"), (said(written(1, shape=["block", 1, 700, 1, 2, 1])), "at most 600 objects")):
                 broker.say(topic, text)
                 await until(lambda: self.is_told(why, ada, sam), why)
-            await put(sam, ["limit", 1, 5, 4])  # counts are not spent
-            self.assertLess((await put(ada, ["limit", 1, 6, 3]))[0], 10)
+            await put(sam, "limit", 2, 5, 4)  # counts are not spent
+            self.assertLess((await put(ada, "limit", 3, 6, 3))[0], 10)
             await self.same(ada, sam, edits=3)
-            good = {"stamp": [7, 70], "sets": [[["limit", 1, 9], 2]], "who": "Eve", "note": "by a script"}
+            good = written(7, shape=["limit", 4, 4, 9, None, 2], who="Eve", note="by a script")
             broker.say(topic, said(7, good, {}))
             await self.same(ada, sam, edits=4)  # the valid operations of a message are taken
             came = (await ada.ask("operations", at="shared"))["operations"][-1]
@@ -161,47 +188,39 @@ class Brokers(Case):
         """Return whether a permanent warning has this sentence."""
         return all(any(why in sentence for sentence in broker_of(seat).get("stays", [])) for seat in seats)
 
-    async def test_a_duplicate_number_is_reported_and_nothing_is_mixed(self) -> None:
+    async def test_two_running_copies_of_a_folder_both_send_and_are_reported(self) -> None:
         broker = self.broker()
-        first, second = self.site(broker, 7), self.site(broker, 7)
-        async with first.seat("Ada") as ada, second.seat("Sam") as sam:
-            await until(lambda: self.stays("uses this site's number, 7", ada, sam), "one number twice")
-            await put(ada, ["limit", 2, 80, 1])
-            await put(sam, ["limit", 2, 80, 2])
-            await asyncio.sleep(4)  # by then both have announced themselves again
-            self.assertEqual([(await shared(seat))[0][5] for seat in (ada, sam)], [1, 2])
-        second.kill()
-        third = self.site(broker, 8)
-        async with third.seat("Tom") as tom, first.seat(key=ada.key) as ada:  # once the other is gone it goes on
-            await self.same(ada, tom, edits=1)
-
-    async def test_a_copied_folder_is_reported(self) -> None:
-        broker = self.broker()
-        first = self.site(broker, 7)
+        first = self.site(broker, "north")
+        async with first.seat("Ada") as ada:
+            await put(ada, "limit", 2, 80, 1)
         copy = new_folder() / "copy"
         shutil.copytree(first.folder, copy)
         second = Server(copy, None, "--broker", broker.address)
         self.addCleanup(lambda: end(second.process))
-        async with first.seat("Ada") as ada, second.seat("Sam") as sam:
-            await until(lambda: self.stays("uses this site's number, 7", ada, sam), "one number twice")
+        async with first.seat(key=ada.key) as ada, second.seat("Sam") as sam:
+            self.assertEqual(sam.welcome["site"], ada.welcome["site"])
+            await put(ada, "limit", 3, 80, 1)
+            await put(sam, "limit", 4, 80, 2)
+            await self.same(ada, sam, edits=3)
+            await until(lambda: self.stays("Another server runs a copy of this folder", ada, sam), "one folder twice")
 
     async def test_a_site_whose_plan_has_another_seed_is_reported(self) -> None:
         broker = self.broker()
-        first, second = self.site(broker, 1), self.site(broker, 2, {**SMALL, "words": 2})
+        first, second = self.site(broker, "north"), self.site(broker, "south", {**SMALL, "words": 2})
         async with first.seat("Ada") as ada, second.seat("Sam") as sam:
             await until(lambda: self.stays("has another road", ada, sam), "another road")
             self.assertEqual(broker_of(ada)["sites"], [])
-            await put(ada, ["limit", 2, 80, 1])
+            await put(ada, "limit", 2, 80, 1)
             await until(lambda: self.broker_is(ada, "connected", 0), "it came back")
             self.assertEqual(await shared(sam), [])
 
     async def test_changes_that_have_not_come_back_are_shown(self) -> None:
         broker = self.broker()
-        first = self.site(broker, 1)
+        first = self.site(broker, "north")
         async with first.seat("Ada") as ada:
             await until(lambda: self.broker_is(ada, "connected", 0), "connected")
             broker.kill()
-            await put(ada, ["limit", 2, 80, 1])
+            await put(ada, "limit", 2, 80, 1)
             await until(lambda: self.broker_is(ada, "away", 1), "away")
             first.restart()
         async with first.seat(key=ada.key) as ada:
@@ -216,32 +235,31 @@ class Brokers(Case):
     async def test_a_broker_delivers_no_message_above_the_limit(self) -> None:
         """However long it is, the server needs no memory for it, and takes other messages."""
         broker = self.broker()
-        first = self.site(broker, 1)
+        first = self.site(broker, "north")
         topic = f"road/{reference(first)}/operations"
 
-        def message(stamp: list[int], length: int) -> str:
-            put = {"stamp": stamp, "sets": [[stamp, ["limit", 2, 2, 50 + stamp[0], None, 1]]], "who": "Eve"}
-            text = json.dumps({"form": 3, "operations": [put]})
+        def message(count: int, length: int) -> str:
+            text = json.dumps({"form": 4, "operations": [written(count, shape=["limit", 2, 2, 50 + count, None, 1], who="Eve")]})
             return text + " " * (length - len(text) - len(topic))
         async with first.seat("Ada") as ada:
             await until(lambda: self.broker_is(ada, "connected", 0), "connected")
             before = memory_of(first)
-            for stamp, length in (([1, 129], 999_900), ([2, 129], 1_000_000), ([3, 129], 40_000_000), ([4, 129], 100)):
-                broker.say(topic, message(stamp, length))
+            for count, length in ((1, 999_900), (2, 1_000_000), (3, 40_000_000), (4, 100)):
+                broker.say(topic, message(count, length))
 
             async def have_come() -> bool:
                 lines: Any = (await ada.ask("layers", at="shared"))["layers"]
-                names.append([line["name"] for line in lines])
-                return [4, 129] in names[-1]
-            names: list[Any] = []
+                counts.append([line["name"][0] for line in lines])
+                return 4 in counts[-1]
+            counts: list[Any] = []
             await until(have_come, "the last one has come")
-            self.assertEqual(names[-1], [[1, 129], [4, 129]])
+            self.assertEqual(counts[-1], [1, 4])
             self.assertLess(memory_of(first) - before, 20_000_000)
 
     async def test_a_message_that_the_broker_does_not_take_is_not_sent_and_reported(self) -> None:
         """Messages are as short as this broker wants them; an operation that is longer is kept until it takes more."""
         broker = self.broker(True, "max_packet_size 2000")
-        first, second = self.site(broker, 1), self.site(broker, 2)
+        first, second = self.site(broker, "north"), self.site(broker, "south")
         async with first.seat("Ada") as ada, second.seat("Sam") as sam:
             await until(lambda: self.broker_is(ada, "connected", 0), "connected")
             for step in range(30):
@@ -286,6 +304,59 @@ class Brokers(Case):
             self.server("--broker", "192.0.2.1:8883")
 
 
+class Floods(Case):
+    """During a flood of messages a gesture takes at most twice as long as during the same flood beside the server."""
+
+    async def asyncSetUp(self) -> None:
+        self.here = self.broker()
+        self.key = new_folder() / "key"
+        self.key.write_text("a secret of the sites")
+        self.one = self.server("--broker", self.here.address, "--site-key", str(self.key))
+        self.road = road_of(self.one.journal()[0]["lab"]["plan"], self.key.read_bytes())
+        self.seal = Seal(self.key.read_bytes())
+
+    async def median(self, seat: Seat, messages: list[tuple[str, bytes]], most: int) -> float:
+        """Return the median time of a gesture while these messages come, as many in a second."""
+        path = new_folder() / "messages"
+        path.write_text(json.dumps([(topic, payload.hex()) for topic, payload in messages]))
+        flood = started([sys.executable, "-c", FLOOD, str(self.here.port), str(path), str(most)], stdout=subprocess.PIPE)
+        assert flood.stdout is not None
+        await asyncio.to_thread(flood.stdout.readline)
+        await asyncio.sleep(1)
+        took = list[float]()
+        for _ in range(40):
+            began = time.perf_counter()
+            await seat.ask("gesture", key=os.urandom(8).hex(), shape=["limit", 2, 2, 50, None, len(took) % 5])
+            took.append(time.perf_counter() - began)
+        self.assertIsNone(flood.poll(), "the flood ended")
+        end(flood)
+        return statistics.median(took)
+
+    def sealed(self, *operations: Any, length: int = 0) -> tuple[str, bytes]:
+        topic = f"road/{self.road}/operations"
+        body = json.dumps({"form": 4, "operations": operations}).encode()
+        return topic, self.seal.seal(topic, body + b" " * max(0, length - len(body)))
+
+    async def test_a_gesture_takes_at_most_twice_as_long(self) -> None:
+        good = [written(count, shape=["limit", 1, 1, count, None, 1], who="Eve") for count in range(1, 6)]
+        refused = [written(count, shape=["limit", 99, 99, count, None, 1], who="Eve") for count in range(1, 2_001)]
+        announced = json.dumps({"form": 4, "site": "eve-00000000", "host": "there", "road": self.road, "count": 0}).encode()
+        floods: list[tuple[str, list[tuple[str, bytes]], int]] = [
+            ("unsealed", [("road/sites", b'{"form":4}'), (f"road/{self.road}/operations", b"x" * 300)], 3_000),
+            ("played again", [self.sealed(one) for one in good] + [("road/sites", self.seal.seal("road/sites", announced))], 2_000),
+            ("refused", [self.sealed(*refused[place:place + 500], {"x": place}) for place in range(0, 2_000, 100)], 30)]
+        async with self.one.seat("Ada") as ada:
+            for what, messages, most in floods:
+                elsewhere = [("elsewhere", payload) for _, payload in messages]
+                slower = max(1.0, await self.median(ada, elsewhere, most) / USUAL)  # than a machine that has nothing else to do
+                rate, quiet, loud = max(1, round(most / slower)), math.inf, math.inf
+                for _ in range(TURNS):
+                    quiet, loud = min(quiet, await self.median(ada, elsewhere, rate)), min(loud, await self.median(ada, messages, rate))
+                    if loud <= 2 * quiet:
+                        break
+                self.assertLessEqual(loud, 2 * quiet, f"{what}: {1e3 * loud:.1f} ms instead of {1e3 * quiet:.1f} ms")
+
+
 def memory_of(server: Server) -> int:
     """Return the bytes of memory that a server uses."""
     pages = int(Path(f"/proc/{server.process.pid}/statm").read_text().split()[1])
@@ -293,7 +364,12 @@ def memory_of(server: Server) -> int:
 
 
 def reference(server: Server) -> str:
-    """Tests of the hashes that show sites that they have the same road."""
-    import hashlib
-    plan = server.journal()[0]["lab"]["plan"]
-    return hashlib.sha256(json.dumps({**plan, "replicas": 0}, sort_keys=True).encode()).hexdigest()[:16]
+    return road_of(server.journal()[0]["lab"]["plan"])
+
+
+def road_of(plan: dict[str, Any], key: bytes = b"") -> str:
+    """Return the name of a road at the broker."""
+    def shortened(text: str) -> str:
+        return hashlib.sha256(text.encode()).hexdigest()[:16]
+    plain = shortened(json.dumps({**plan, "replicas": 0}, sort_keys=True))
+    return shortened(f"{plain} {hashlib.sha256(key).hexdigest()}" if key else plain)

@@ -139,8 +139,8 @@ def operations_of(server: Server) -> list[dict[str, Any]]:
 
 
 def shapes_of(operation: dict[str, Any]) -> list[list[Any]]:
-    """Return what an operation sets: shapes, and raw edits as [kind, index, step, value], by object and step."""
-    return sorted([*name, shape] if len(name) == 3 else shape for name, shape in operation["sets"])
+    """Return the shape that an operation sets; none if it sets none."""
+    return [operation["shape"]] if "shape" in operation else []
 
 
 class Tab:
@@ -379,7 +379,7 @@ def preview_rows(tab: Tab) -> dict[str, tuple[float, ...]]:
     """Return the table of a preview, by the names of its rows: before, after, change."""
     tab.until(lambda: tab.script("return document.querySelector('#preview table') !== null"), "the figures")
     rows = tab.script("return [...document.querySelectorAll('#preview tbody tr')].map((line) => "
-                      "[...line.children].map((one) => one.textContent))")
+                      "[...line.children].map((one) => one.firstChild?.data ?? ''))")
     number = lambda text: float(text.replace(",", "").replace("−", "-").replace("+", "") or "nan")
     return {name: tuple(map(number, values)) for name, *values in rows}
 

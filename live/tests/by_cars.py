@@ -7,7 +7,8 @@ import random
 from typing import Any
 
 from faulty import Here, soon
-from raw_figures import LONG, STEPS, Run, compare, random_plan, random_shapes
+from figures_told import at_inlets, value
+from raw_figures import LONG, STEPS, Run, compare, figures_of, random_plan, random_shapes
 from running import ALL, Case
 from server.background.settings import Settings
 
@@ -16,23 +17,46 @@ ROADS = 100 if ALL else 30
 
 class ByCars(Case):
     def near(self, found: Any, wanted: Any, what: Any) -> None:
-        """Return numbers, or lists and objects of numbers, rounded to nine digits."""
+        """Compare a number, or each number of lists and objects, to seven digits."""
         if isinstance(wanted, dict):
-            for name, value in wanted.items():
-                self.near(found[name], value, (what, name))
+            for name, one in wanted.items():
+                self.near(found[name], one, (what, name))
         elif isinstance(wanted, list):
             self.assertEqual(len(found), len(wanted), what)
-            for place, value in enumerate(wanted):
-                self.near(found[place], value, (what, place))
+            for place, one in enumerate(wanted):
+                self.near(found[place], one, (what, place))
         elif wanted is None:
             self.assertIsNone(found, what)
         else:
             self.assertAlmostEqual(found, wanted, 7, what)
 
+    def are(self, said: Any, before: Run, after: Run, first: int, last: int, what: Any) -> None:
+        """Compare each figure and the travel times by minute of entry with those of the cars. Demand is compared in `demand_is`."""
+        known = figures_of(before, after, first, last)
+        for row in said["figures"]:
+            key, of = row["figure"]["key"], row["figure"]["of"]
+            if key in ("demand", "demand at", "lost", "lost at"):
+                continue
+            for side, wanted in zip(("before", "after", "difference"), known.pop((key, of[0], of[1]))):
+                self.near(row[side], [wanted, None], (*what, row["figure"]["title"], side))
+        self.assertEqual(known, {}, what)
+        self.near(said["entries"], {"before": before.by_entry(first, last), "after": after.by_entry(first, last)}, what)
+        for side, run in (("before", before), ("after", after)):
+            for inlet, steps in enumerate(run.came):
+                lost = at_inlets(said, side, "lost")[inlet]
+                if steps is not None:
+                    missing = sum(first <= step < last for step in steps) - run.admitted(first, last)[inlet]
+                    self.assertEqual(lost, missing if missing >= (3 if inlet else 1) else 0, (*what, side, inlet))
+                    self.lost += lost > 0
+            for key in ("demand", "lost"):
+                self.assertAlmostEqual(value(said, side, key), sum(at_inlets(said, side, key)), 9, (*what, side, key))
+
     async def runs(self, here: Here, seat: int) -> list[Run]:
         """Build the shared road and the own road from the edits that the laboratory reports."""
         edits = [(await here.ask(seat, "scenario", at=at))["edits"] for at in ("shared", f"seat{seat}")]
         return [Run(here.plan, one, STEPS) for one in edits]
+
+    lost = 0  # how often cars were lost
 
     async def test_each_figure_equals_that_of_the_cars(self) -> None:
         for number in range(ROADS):
@@ -52,22 +76,14 @@ class ByCars(Case):
                 windows[2][1] += 60
                 for first, last in windows:
                     said = await soon(here.ask(seat, "figures", of="mine", **{"from": first, "to": last}))
-                    self.near(said, compare(before, after, first, last), (number, first, last))
-                    for side, run in (("before", before), ("after", after)):
-                        self.near(said[side], {
-                            "vehicle_hours": run.hours(first, last), "entered": run.admitted(first, last),
-                            "travel": run.travel(first, last),
-                            "flows": [run.detector(one, first, last) for one in range(3)]}, (number, side, first, last))
-                        self.near(said[side]["lost"], [one - other for one, other in zip(said[side]["asked"], run.admitted(first, last))],
-                                  (number, side))
+                    self.are(said, before, after, first, last, (number, first, last))
                     if [first, last] == whole:
                         self.demand_is(said, before, after, number)
                 for step in (300, 40):  # late edits, the second one further back
                     await here.ask(seat, "gesture", key=f"late {step}", shape=["block", 8, 8, step, step + 40, 1])
                     before, after = await self.runs(here, seat)
                     said = await soon(here.ask(seat, "figures", of="mine", **{"from": 0, "to": STEPS}))
-                    self.near(said, compare(before, after, 0, STEPS), (number, "late", step))
-                    self.near(said["after"], {"travel": after.travel(0, STEPS), "entered": after.admitted(0, STEPS)}, (number, "late", step))
+                    self.are(said, before, after, 0, STEPS, (number, "late", step))
                 for at, run in (("shared", before), (f"seat{seat}", after)):
                     await here.ask(seat, "advance", at=at, to=STEPS)
                     flows = (await here.ask(seat, "counts", at=at, **{"from": 0, "to": STEPS}))["flows"]
@@ -75,10 +91,12 @@ class ByCars(Case):
                     sums = (await here.ask(seat, "sums", at=at, **{"from": 60, "to": 420}))["sums"]
                     self.assertAlmostEqual(sum(sums) / 3_600, run.hours(60, 420), 9)
 
+        self.assertGreater(self.lost, 0)
+
     def demand_is(self, said: Any, before: Run, after: Run, number: int) -> None:
         """Check that the demand equals what its chances admit in long runs, within 0.5 % and four standard errors of such a run."""
         for side, run in (("before", before), ("after", after)):
-            for inlet, asked in enumerate(said[side]["asked"]):
+            for inlet, asked in enumerate(at_inlets(said, side, "demand")):
                 wanted = run.asked(inlet, 0, STEPS)
                 error = math.sqrt(wanted * STEPS / LONG) if wanted else 0
                 self.assertLessEqual(abs(asked - wanted), 0.005 * wanted + 4 * error + 1e-9, (number, side, inlet, asked, wanted))
@@ -96,7 +114,7 @@ class ByCars(Case):
         cases: list[tuple[list[list[Any]], float, float, float]] = [
             ([], wanted, -scatter, scatter),
             ([["slow", 0, 0, 0, None, 49_152]], wanted, 400, 900),  # three of four cars that enter do not start
-            ([["start", 0, 0, 1, None, 60_000]], wanted, 400, 1_200), ([["limit", 0, 0, 0, None, 0]], wanted, wanted - 2, wanted),
+            ([["start", 0, 0, 1, None, 60_000]], wanted, 400, 1_200), ([["limit", 0, 0, 0, None, 0]], wanted, wanted - scatter, wanted + scatter),
             ([["limit", 0, 0, 0, None, 1]], wanted, -scatter, scatter),  # (at 27 km/h a car still leaves the inlet at once)
             ([["block", 0, 5, 600, 2_400, 1]], wanted, wanted / 2 - scatter, wanted / 2 + scatter),
             ([["inflow", 0, 0, 0, None, 0]], 0, 0, 0)]
@@ -107,11 +125,14 @@ class ByCars(Case):
                 for place, shape in enumerate(shapes):
                     await here.ask(seat, "gesture", key=f"{place}", shape=shape)
                 said = await soon(here.ask(seat, "figures", of="mine", **{"from": 0, "to": steps}))
-                self.assertAlmostEqual(said["after"]["asked"][0], asked, delta=0.01 * wanted, msg=str(shapes))
-                lost = said["after"]["lost"][0]
+                demand, came, lost = (at_inlets(said, "after", key)[0] for key in ("demand", "admitted", "lost"))
+                self.assertAlmostEqual(demand, asked, delta=0.01 * wanted, msg=str(shapes))
                 self.assertTrue(least <= lost <= most, (shapes, lost, least, most))
-                self.assertAlmostEqual(lost, said["after"]["asked"][0] - said["after"]["entered"][0], 9)
-                self.assertLess(abs(said["before"]["lost"][0]), scatter)
+                self.assertAlmostEqual(lost, demand - came, delta=scatter + 2)
+                self.assertEqual(at_inlets(said, "before", "lost"), [0, 0])
+                hours, = (row for row in said["figures"] if row["figure"]["key"] == "hours")
+                self.assertEqual(hours["bound"], "at least" if lost else "")
+                self.assertEqual(f"Cars that cannot enter are lost: {lost:,.0f} at km 0 (mine)" in hours["words"], lost > 0, hours["words"])
 
     async def test_a_ramp_that_finds_no_place_loses_its_demand_and_one_that_is_switched_off_does_not(self) -> None:
         chances, steps = (26_214, 6_554), 3_600
@@ -124,12 +145,13 @@ class ByCars(Case):
                 for place, shape in enumerate(shapes):
                     await here.ask(seat, "gesture", key=f"{place}", shape=shape)
                 said = await soon(here.ask(seat, "figures", of="mine", **{"from": 600, "to": steps}))
-                asked, before = said["after"]["asked"][1], said["before"]["asked"][1]
+                asked, before = (at_inlets(said, side, "demand")[1] for side in ("after", "before"))
+                lost = at_inlets(said, "after", "lost")[1]
                 if share:
                     self.assertAlmostEqual(asked, before, 9)  # the jam leaves the demand as it is
-                    self.assertGreater(said["after"]["lost"][1], share * asked)
+                    self.assertGreater(lost, share * asked)
                 else:
-                    self.assertEqual((asked, said["after"]["lost"][1]), (0, 0))
+                    self.assertEqual((asked, lost), (0, 0))
 
     async def test_days_are_means_of_these_figures(self) -> None:
         chance = random.Random(77)
@@ -142,11 +164,10 @@ class ByCars(Case):
                     await here.ask(seat, "gesture", key=f"{place}", shape=shape)
                 here.keeper.settings = Settings(days=3)
                 said = await soon(here.ask(seat, "days", of="mine", **{"from": 60, "to": 400}))
-                found = {one["name"]: one for one in said["figures"]}
                 edits = [(await here.ask(seat, "scenario", at=at))["edits"] for at in ("shared", f"seat{seat}")]
                 days = [[Run({**plan, "words": plan["words"] + day}, one, STEPS) for one in edits] for day in range(3)]
                 for side, place in (("before", 0), ("after", 1)):
                     hours = [day[place].hours(60, 400) for day in days]
-                    self.assertAlmostEqual(found["vehicle_hours"][side][0], sum(hours) / 3, 7)
+                    self.assertAlmostEqual(value(said, side, "hours"), sum(hours) / 3, 7)
                 delays = [compare(before, after, 60, 400)["delay_hours"] for before, after in days]
-                self.assertAlmostEqual(found["delay"]["difference"][0], sum(delays) / 3, 7)
+                self.assertAlmostEqual(value(said, "difference", "delay"), sum(delays) / 3, 7)

@@ -68,7 +68,7 @@ class Certificates(Case):
         server = self.server("--listen", "0.0.0.0", "--name", "localhost", "--certificate", self.both)
         self.assertRegex(server.address, "^https://localhost:")
         async with Seat(server.address, self.authority, name="Ada") as ada:
-            self.assertEqual((await ada.ask("gesture", key="1", edits=[["limit", 1, 5, 1]]))["stamp"], [1, 65])
+            self.assertEqual((await ada.ask("gesture", key="1", shape=["limit", 1, 1, 5, None, 1]))["stamp"][0], 1)
         for address in (server.address.replace("https", "http"), server.address.replace("localhost", "127.0.0.1")):
             with self.assertRaises((aiohttp.ClientError, ssl.SSLError)):
                 async with Seat(address, self.authority, name="Ben"):
@@ -133,7 +133,7 @@ class Certificates(Case):
         sites = [self.server(*words, "--broker-password", str(folder / "password"), "--site", number) for number in "12"]
         stranger = self.server(*words, "--broker-password", str(folder / "wrong"), "--site", "3")
         async with sites[0].seat("Ada") as ada, sites[1].seat("Sam") as sam, stranger.seat("Eve") as eve:
-            await ada.ask("gesture", key="1", edits=[["limit", 1, 5, 1]])
+            await ada.ask("gesture", key="1", shape=["limit", 1, 1, 5, None, 1])
             await ada.ask("send", name="shared")
             async def is_told() -> bool:
                 told[:] = [one["broker"] for one in eve.received if "broker" in one and one["broker"]["told"]]

@@ -10,26 +10,26 @@ const NONE = {undo: null, redo: null};
 const acts = (...list) => list.map(([key, does]) => ({key, does}));
 
 test("if nothing is pending, Undo and Redo do what the server says", () => {
-  assert.deepEqual(nextOf({undo: [3, 65], redo: [2, 65]}, []), {undo: [3, 65], redo: [2, 65]});
+  assert.deepEqual(nextOf({undo: [3, "h65"], redo: [2, "h65"]}, []), {undo: [3, "h65"], redo: [2, "h65"]});
   assert.deepEqual(nextOf(NONE, []), NONE);
 });
 
 test("pending acts are undone first, one with each press", () => {
   const put = acts(["a", "apply"], ["b", "apply"]);
-  assert.deepEqual(nextOf({undo: [3, 65], redo: [2, 65]}, put), {undo: "b", redo: null});
+  assert.deepEqual(nextOf({undo: [3, "h65"], redo: [2, "h65"]}, put), {undo: "b", redo: null});
   const once = [...put, ...acts(["c", "undo"])];
   assert.deepEqual(nextOf(NONE, once), {undo: "a", redo: "c"});
   const twice = [...once, ...acts(["d", "undo"])];
   assert.deepEqual(nextOf(NONE, twice), {undo: null, redo: "d"});
-  assert.deepEqual(nextOf({undo: [3, 65], redo: null}, twice), {undo: [3, 65], redo: "d"});
+  assert.deepEqual(nextOf({undo: [3, "h65"], redo: null}, twice), {undo: [3, "h65"], redo: "d"});
   const again = [...twice, ...acts(["e", "redo"])];
   assert.deepEqual(nextOf(NONE, again), {undo: "e", redo: "c"});
 });
 
 test("if only the server knows what comes next, the page waits for its answer", () => {
-  assert.equal(nextOf({undo: [3, 65], redo: null}, acts(["a", "undo"])).undo, undefined);
-  assert.equal(nextOf({undo: [3, 65], redo: null}, acts(["a", "undo"])).redo, "a");
-  assert.equal(nextOf({undo: null, redo: [2, 65]}, acts(["a", "redo"])).redo, undefined);
+  assert.equal(nextOf({undo: [3, "h65"], redo: null}, acts(["a", "undo"])).undo, undefined);
+  assert.equal(nextOf({undo: [3, "h65"], redo: null}, acts(["a", "undo"])).redo, "a");
+  assert.equal(nextOf({undo: null, redo: [2, "h65"]}, acts(["a", "redo"])).redo, undefined);
 });
 
 test("a pending act that is undone is found, and one that is redone is not", () => {

@@ -3,12 +3,14 @@ asking tab leaves."""
 from __future__ import annotations
 
 import asyncio
+import json
 import os
 import statistics
 from pathlib import Path
 from typing import Any
 
 from faulty import Here, soon
+from figures_told import value
 from running import SMALL, Case, new_folder, program, until
 from server.tabs.refusals import Refused
 from server.background.settings import Settings
@@ -43,7 +45,8 @@ class Days(Case):
 
     async def change(self, here: Here, seat: int) -> None:
         """Make a jam that reaches the inlets, and change the demand of one of them."""
-        await here.put(seat, ["block", 50, 60, 1], ["block", 50, 150, 0], ["inflow", 1, 30, 20_000])
+        await here.ask(seat, "gesture", key="jam", shape=["block", 50, 50, 60, 150, 1])
+        await here.put(seat, ["inflow", 1, 30, 20_000])
 
     def program_that(self, does: str) -> tuple[str, Path]:
         """Replace road_lab by a program that also writes into a file."""
@@ -53,35 +56,32 @@ class Days(Case):
         path.chmod(0o755)
         return str(path), wrote
 
-    async def of_days(self, days: int) -> dict[str, list[list[float]]]:
-        """Return the figures of this many days, before and after, each day computed on a road of its own with another seed."""
+    async def of_days(self, days: int) -> list[Any]:
+        """Return the replies of this many days, each computed on a road of its own with another seed."""
         found = []
         for words in range(1, days + 1):
             async with Here(plan={**SMALL, "words": words}) as here:
                 seat, = await here.join("Ada")
                 await self.change(here, seat)
                 found.append(await here.ask(seat, "figures", of="mine", **SPAN))
-        sides = ("before", "after")
-        return {"vehicle_hours": [[day[side]["vehicle_hours"] for day in found] for side in sides],
-                "lost": [[sum(day[side]["lost"]) for day in found] for side in sides],
-                "delay": [[0.0] * days, [day["delay_hours"] for day in found]],
-                **{f"cars {at}": [[day[side]["detectors"][at][0] for day in found] for side in sides] for at in range(3)},
-                **{f"seconds {at}": [[day[side]["travel"][at][1] for day in found] for side in sides] for at in range(4)}}
+        return found
 
-    def are_means(self, said: Any, wanted: dict[str, list[list[float]]]) -> None:
+    def are_means(self, said: Any, of_days: list[Any]) -> None:
         """Check that the figures are the means of these days, with intervals if there are two or more days."""
-        self.assertEqual([one["name"] for one in said["figures"]], list(wanted))
-        for one in said["figures"]:
-            before, after = wanted[one["name"]]
-            days = len(before)
-            for side, values in (("before", before), ("after", after),
-                                 ("difference", [late - early for early, late in zip(before, after)])):
-                self.assertAlmostEqual(one[side][0], statistics.mean(values), 6, (one["name"], side))
+        days = len(of_days)
+        self.assertEqual([row["figure"] for row in said["figures"]], [row["figure"] for row in of_days[0]["figures"]])
+        for place, row in enumerate(said["figures"]):
+            for side in ("before", "after", "difference"):
+                values = [day["figures"][place][side][0] for day in of_days]
+                what = row["figure"]["title"], side
+                if None in values:
+                    self.assertEqual(row[side], [None, None], what)
+                    continue
+                self.assertAlmostEqual(row[side][0], statistics.mean(values), 6, what)
                 if days == 1:
-                    self.assertIsNone(one[side][1])
+                    self.assertIsNone(row[side][1], what)
                 else:
-                    half = T_OF[days - 1] * statistics.stdev(values) / days ** 0.5
-                    self.assertAlmostEqual(one[side][1], half, 4, (one["name"], side))
+                    self.assertAlmostEqual(row[side][1], T_OF[days - 1] * statistics.stdev(values) / days ** 0.5, 4, what)
 
     async def test_means_and_intervals_equal_those_of_the_days(self) -> None:
         of_days = await self.of_days(3)
@@ -89,7 +89,8 @@ class Days(Case):
         self.over(3)
         said = await soon(self.here.ask(self.ada, "days", of="mine", **SPAN))
         self.assertEqual((said["from"], said["to"], said["days"], said["stopped"]), (20, 200, 3, False))
-        self.assertGreater(sum(of_days["lost"][1]), sum(of_days["lost"][0]))
+        lost = [[value(day, side, "lost") for day in of_days] for side in ("before", "after")]
+        self.assertGreater(sum(lost[1]), sum(lost[0]))
         self.are_means(said, of_days)
         self.assertEqual(self.heard, [(self.ada, done, 3) for done in (1, 2, 3)])
 
@@ -115,8 +116,8 @@ class Days(Case):
         await self.here.ask(self.ada, "preview", what="share")
         entries = self.here.entries()
         self.over(2)
-        of_both = [await soon(self.here.ask(self.ada, "days", of=of, **SPAN)) for of in ("preview", "mine")]
-        self.assertEqual(*of_both)
+        preview, mine = [await soon(self.here.ask(self.ada, "days", of=of, **SPAN)) for of in ("preview", "mine")]
+        self.assertEqual(json.dumps(preview), json.dumps(mine).replace("(mine)", "(after)"))  # what their words call the second road
         self.assertEqual(self.here.entries(), entries)
 
     async def test_a_road_with_fixed_random_numbers_has_only_one_day(self) -> None:

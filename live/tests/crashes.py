@@ -12,7 +12,6 @@ from aiohttp import ClientError
 
 from oracle import by_rows, oracle_of
 from server.tabs.client import Seat
-from server.tabs.frames import Held
 from server.model.operations import Stamp
 from server.model.reading import read_operation
 from running import PATIENCE, SMALL, Case, Server, transport_of, until
@@ -30,7 +29,7 @@ class Engineer:
         self.name, self.key, self._chance = name, "", chance
         self.sent: dict[str, list[Any]] = {}
         self.confirmed: dict[str, Stamp] = {}
-        self.shared: set[tuple[int, ...]] = set()
+        self.shared: set[Stamp] = set()
 
     def connect(self, server: Server) -> Seat:
         return server.seat(key=self.key) if self.key else server.seat(self.name)
@@ -41,20 +40,15 @@ class Engineer:
             while not is_enough():
                 key = f"{self.name}-{self._chance.getrandbits(60):x}"
                 step = self._chance.randrange(LAST)
-                self.sent[key] = [["block", self._chance.randrange(5, 55), step, 1],
-                                  ["limit", self._chance.randrange(3), step, 3]]
-                self.confirmed[key] = (await seat.ask("gesture", key=key, edits=self.sent[key]))["stamp"]
+                cell, zone = self._chance.randrange(5, 55), self._chance.randrange(3)
+                self.sent[key] = self._chance.choice([["block", cell, cell, step, step + 3, 1], ["limit", zone, zone, step, None, 3]])
+                self.confirmed[key] = (await seat.ask("gesture", key=key, shape=self.sent[key]))["stamp"]
                 if self._chance.random() < 0.2:
-                    self.shared.update(map(tuple, (await seat.ask("send", name="shared"))["stamps"]))
+                    self.shared.update((count, name) for count, name in (await seat.ask("send", name="shared"))["stamps"])
                 if self._chance.random() < 0.1:
                     await seat.ask("take", message="shared")
         except (ConnectionError, ClientError):
             pass
-
-
-def raw_edits(operation: Held) -> list[list[Any]]:
-    """Return the raw edits of an operation."""
-    return [[*name, value] for name, value in operation["sets"] if isinstance(name, list)]
 
 
 def numbers(scenario: Sequence[Any]) -> dict[tuple[Any, ...], int]:
@@ -91,21 +85,21 @@ class Crashes(Case):
         await until(has_more, "gestures are confirmed")
 
     async def look(self, server: Server, engineers: list[Engineer]) -> None:
-        """Check that every confirmed gesture is there with its edits. Send every unconfirmed gesture again, and check that it is
+        """Check that every confirmed gesture is there with its shape. Send every unconfirmed gesture again, and check that it is
         there once."""
         for engineer in engineers:
             async with engineer.connect(server) as seat:
                 for key in engineer.sent.keys() - engineer.confirmed.keys():
-                    said = await seat.ask("gesture", key=key, edits=engineer.sent[key])
+                    said = await seat.ask("gesture", key=key, shape=engineer.sent[key])
                     engineer.confirmed[key] = said["stamp"]
                 held = {tuple(one["stamp"]): one for one in (await seat.ask("operations"))["operations"]}
                 shared = {tuple(one["stamp"]) for one in (await seat.ask("operations", at="shared"))["operations"]}
                 for key, stamp in engineer.confirmed.items():
-                    self.assertEqual(raw_edits(held[tuple(stamp)]), engineer.sent[key])
-                own = [stamp for stamp, one in held.items() if stamp[1] == seat.welcome["number"]]
+                    self.assertEqual(held[tuple(stamp)]["shape"], engineer.sent[key])
+                own = [one for one in held.values() if one.get("seat") == seat.welcome["seat"]]
                 self.assertEqual(len(own), len(engineer.confirmed))
                 self.assertLessEqual(engineer.shared, shared)
-                written: Any = [{name: value for name, value in one.items() if name != "shared"} for one in held.values()]
+                written: Any = [{name: value for name, value in one.items() if name not in ("shared", "seat")} for one in held.values()]
                 values = ORACLE.painted(map(read_operation, written))
                 self.assertEqual(ORACLE.by_the_program(by_rows((await seat.ask("scenario"))["edits"])), values)
 
@@ -138,7 +132,7 @@ class Crashes(Case):
         """Changes that are shared while it is down still reach the other site."""
         broker = self.broker()
         server = self.server("--broker", broker.address, plan=PLAN)
-        other = self.server("--broker", broker.address, "--site", "2", plan=PLAN)
+        other = self.server("--broker", broker.address, "--site", "south", plan=PLAN)
         engineers = self.engineers()
 
         async def kill(tasks: list[asyncio.Task[None]]) -> None:
@@ -165,7 +159,7 @@ class Crashes(Case):
         async with server.seat("Ada") as ada, server.seat("Ben") as ben:
             await ada.say("clock", to=LAST)
             for seat in (ada, ben):
-                await seat.ask("gesture", key="1", edits=[["block", 30, 10, 1], ["block", 30, 40, 0]])
+                await seat.ask("gesture", key="1", shape=["block", 30, 30, 10, 40, 1])
                 await seat.ask("send", name="shared")
                 await seat.ask("advance", to=LAST)
             rows = await ada.ask("diagram", **{"from": 0, "to": LAST})
@@ -175,7 +169,7 @@ class Crashes(Case):
                 number += 1
                 if number % 50 == 49:
                     made += 1
-                    await ben.ask("gesture", key=f"k{number}", edits=[["limit", 2, made % LAST, 1 + made % 2]])
+                    await ben.ask("gesture", key=f"k{number}", shape=["limit", 2, 2, made % LAST, None, 1 + made % 2])
                 said = await (ada, ben)[number % 2].ask("cells", step=number % 10)
                 self.assertEqual(said["cells"], rows["rows"][number % 10] if number % 2 == 0 else said["cells"])
             self.assertEqual((await ada.ask("diagram", **{"from": 0, "to": LAST}))["rows"], rows["rows"])
@@ -189,7 +183,7 @@ class Crashes(Case):
         """It does so even if one of the tabs does not read."""
         server = self.server(plan=PLAN)
         ada, deaf = [await server.seat(name).__aenter__() for name in ("Ada", "deaf")]
-        await ada.ask("gesture", key="1", edits=[["block", 30, 10, 1]])
+        await ada.ask("gesture", key="1", shape=["block", 30, 30, 10, None, 1])
         transport = transport_of(deaf)
         transport.pause_reading()
         began = time.monotonic()
@@ -207,7 +201,7 @@ class Crashes(Case):
     async def test_a_program_that_cannot_continue_is_reported(self) -> None:
         server = self.server(plan=PLAN)
         async with server.seat("Ada") as ada:
-            await ada.ask("gesture", key="1", edits=[["block", 30, 10, 1]])
+            await ada.ask("gesture", key="1", shape=["block", 30, 30, 10, None, 1])
             for _ in range(3):
                 os.kill(server.program, signal.SIGKILL)
                 self.assertEqual(len((await ada.ask("scenario"))["edits"]), 1)

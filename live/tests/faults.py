@@ -17,6 +17,7 @@ from unittest import mock
 
 from faulty import Bus, Disk, Here, Message, soon
 from running import ALL, Case, new_folder
+from server.model.operations import Stamp
 from server.tabs.refusals import Refused
 from server.journal.journal import read_entries
 from server.roads.program import Program
@@ -41,7 +42,7 @@ class Story:
         self.durable = b""  # the part of the journal that is durable on the disk
         self.confirmed: list[tuple[Any, ...]] = []
         self.refused: list[str] = []
-        self.told: list[tuple[int, int]] = []  # the stamps that the server announced to others
+        self.told: list[Stamp] = []  # the stamps of its operations that the server announced to others
         self.untrue: list[str] = []
 
     @property
@@ -56,8 +57,8 @@ class Story:
     async def __aenter__(self) -> Story:
         self._all = contextlib.AsyncExitStack()
         self._all.enter_context(self.disk)
-        self.here = await self._all.enter_async_context(Here(self.disk.folder, site=1))
-        self.there = await self._all.enter_async_context(Here(site=2))
+        self.here = await self._all.enter_async_context(Here(self.disk.folder))
+        self.there = await self._all.enter_async_context(Here())
         self.bus = Bus()
         self.site, self.other = self.bus.site(self.here), self.bus.site(self.there)
         self.bus.hears = self._hears
@@ -81,9 +82,11 @@ class Story:
         for change in self.here.lab.unseen_shares(self.cleo, 1_000)["changes"]:
             self._tells(change["stamp"])
 
-    def _tells(self, stamp: tuple[int, int]) -> None:
+    def _tells(self, stamp: Stamp) -> None:
+        if any(one.stamp == stamp for one in self.there.lab.state.makers):
+            return
         self.told.append(stamp)
-        if stamp[1] // 64 == 1 and f'"stamp":[{stamp[0]},{stamp[1]}]'.encode() not in self.durable:
+        if f'"stamp":[{stamp[0]},"{stamp[1]}"]'.encode() not in self.durable:
             self.untrue.append(f"{stamp} was announced before it was on the disk")
 
     # What is done
@@ -98,8 +101,7 @@ class Story:
         return result
 
     async def put(self, seat: int, step: int) -> Any:
-        edits = [["limit", seat, step, step % 7], ["block", 50 + seat, step, 1], ["block", 50 + seat, step + 5, 0]]
-        return await self.act(f"put {seat} {step}", self.here.put(seat, *edits, key=f"k{step}"))
+        return await self.act(f"put {seat} {step}", self.here.put(seat, ["limit", seat, step, step % 7], key=f"k{step}"))
 
     async def undo(self, seat: int, stamp: Any) -> None:
         if stamp is not None:
@@ -154,12 +156,11 @@ class Story:
             if number > 2 and shared(self.here.keeper.state) == shared(self.there.keeper.state):
                 return
 
-    def faults(self, state: State, confirmed: list[tuple[Any, ...]], told: list[tuple[int, int]]) -> list[str]:
+    def faults(self, state: State, confirmed: list[tuple[Any, ...]], told: list[Stamp]) -> list[str]:
         """Return the operations that were confirmed or announced, and that a state does not have."""
         lacking = [f"{name} is not there" for name, result in confirmed if not is_there(state, name, result)]
         known = shared(state)
-        return lacking + [f"{stamp} was announced, and is not there" for stamp in told if stamp[1] // 64 == 1
-                          and stamp not in known]
+        return lacking + [f"{stamp} was announced, and is not there" for stamp in told if stamp not in known]
 
 
 def is_there(state: State, name: str, result: Any) -> bool:
@@ -175,22 +176,21 @@ def is_there(state: State, name: str, result: Any) -> bool:
     return state.now >= 100
 
 
-def shared(state: State) -> set[tuple[int, int]]:
+def shared(state: State) -> set[Stamp]:
     return {one.stamp for one in state.shared.places}
 
 
-def stamps_in(message: Message) -> list[tuple[int, int]]:
+def stamps_in(message: Message) -> list[Stamp]:
     """Return the stamps of a message with operations."""
     import json
-    value = json.loads(message.payload)
-    return [(count, number) for count, number in (one["stamp"] for one in value.get("operations", []))]
+    value = json.loads(message.payload.partition(b"\n")[2])
+    return [(count, name) for count, name in (one["stamp"] for one in value.get("operations", []))]
 
 
 def replayed(path: Path) -> State:
     state = State()
     for entry in read_entries(path)[0]:
         state.read(entry)
-    state.end_reading()
     return state
 
 

@@ -3,7 +3,9 @@ from __future__ import annotations
 
 import argparse
 import asyncio
+import base64
 import errno
+import hashlib
 import json
 import multiprocessing
 import os
@@ -18,7 +20,7 @@ from server.tabs import verbs
 from server.tabs.asked import CommandFields
 from server.journal.keeper import Keeper
 from server.journal.lab import Lab
-from server.model.operations import Operation
+from server.model.operations import Operation, Stamp
 from server.tabs.questions import Questions
 from server.background.settings import Settings
 from server.sites.sites import Sites
@@ -79,7 +81,7 @@ class Disk:
 class Here:
     """A laboratory in this process, without sockets."""
 
-    def __init__(self, folder: Path | None = None, plan: dict[str, Any] | None = None, site: int | None = None) -> None:
+    def __init__(self, folder: Path | None = None, plan: dict[str, Any] | None = None, site: str | None = None) -> None:
         self.folder, self.plan, self.site = folder or new_folder(), plan or SMALL, site
         self.keys: dict[int, str] = {}
 
@@ -113,8 +115,11 @@ class Here:
         reply = await verbs.answer(self.lab, self.questions, seat, asked, {})
         return json.loads(reply) if isinstance(reply, bytes) else reply
 
-    async def put(self, seat: int, *edits: list[Any], key: str | None = None) -> tuple[int, int]:
-        stamp: tuple[int, int] = (await self.ask(seat, "gesture", key=key or secrets.token_hex(8), edits=list(edits)))["stamp"]
+    async def put(self, seat: int, edit: list[Any], key: str | None = None) -> Stamp:
+        """Put a shape of one object from a step on: its kind, index, step and value. Return its stamp."""
+        kind, index, step, value = edit
+        shape = [kind, index, index, step, None, value]
+        stamp: Stamp = (await self.ask(seat, "gesture", key=key or secrets.token_hex(8), shape=shape))["stamp"]
         return stamp
 
     async def share(self, seat: int) -> Any:
@@ -139,9 +144,18 @@ class Message(NamedTuple):
     payload: bytes
 
 
+def written(count: int, **fields: Any) -> dict[str, Any]:
+    """Return an operation as PROTOCOL.md says that it is written, under the name that its text gives it. (`Operation.written` and
+    `name_of` are not used here.)"""
+    value = {"site": "eve-00000000", **fields}
+    text = json.dumps({**value, "stamp": count}, ensure_ascii=False, separators=(",", ":"), sort_keys=True)
+    name = base64.b64encode(hashlib.sha256(text.encode("utf-8", "surrogatepass")).digest()[:16], b"-_").decode()[:22]
+    return {**value, "stamp": [count, name]}
+
+
 def message_of(site: Sites, *operations: Operation, **more: Any) -> Message:
     """Return a message with operations, as a site sends it."""
-    value = {"form": 3, "operations": [one.written() for one in operations], **more}
+    value = {"form": 4, "operations": [one.written() for one in operations], **more}
     return Message(f"road/{site._road}/operations", json.dumps(value).encode())
 
 

@@ -11,6 +11,7 @@ from pathlib import Path
 from typing import Any, Mapping, Sequence
 
 from crashes import numbers
+from figures_told import at_inlets, value
 from server.tabs.client import Seat
 from server.figures.report import demand_text
 from running import LIVE, PATIENCE, SMALL, Case, Server, end, new_folder, program, started, until
@@ -94,7 +95,7 @@ class Freeways(Case):
             await ada.say("clock", to=900)
             said = await ada.ask("figures", of="mine", **{"from": 0, "to": 900})
             wanted = [900 * 300 / 3_600 + 600 * 600 / 3_600, 200 * 900 / 3_600]
-            self.assertEqual(said["after"]["asked"], wanted)
+            self.assertEqual(at_inlets(said, "after", "demand"), wanted)
             edits = (await ada.ask("scenario", at="shared"))["edits"]
             plan = ada.welcome["plan"]
             for step, _ in ((0, 900), (300, 600)):
@@ -119,7 +120,7 @@ class Freeways(Case):
             self.assertEqual((plan["zone"], [slow for _, slow in plan["zones"]][:3]), (20, [0, 0, 13_107]))
             await ada.say("clock", to=900)
             said = await ada.ask("figures", of="mine", **{"from": 0, "to": 900})
-            self.assertEqual(said["after"]["asked"], [1_750 / 4, 40 / 4])
+            self.assertEqual(at_inlets(said, "after", "demand"), [1_750 / 4, 40 / 4])
             curve = await ada.say("admission", inlet=1, start=None, before=[[0, plan["inlets"][0][1]]])
             (low, less), (high, more) = next((one, other) for one, other in zip(curve["points"], curve["points"][1:])
                                              if one[0] <= plan["inlets"][1][1] <= other[0])
@@ -152,32 +153,34 @@ class Freeways(Case):
 
     async def test_each_demand_is_the_one_that_was_asked_for(self) -> None:
         """Compare lists and figures with the demand of the file and with the demands that people put and change: on the own road,
-        on the shared road and in a preview, before and after a restart. Only for a chance that was put without a demand is the
-        demand measured."""
+        on the shared road and in a preview, before and after a restart. Demands are rounded. Only for a chance that was put without a
+        demand is the demand measured."""
         ramp = [["7:00", 200], ["7:10", 310.5]]
         server = self.server(plan={**KM, "main": [["7:00", 900], ["7:05", 600.25]], "ramps": [[0.45, ramp]], "begin": "07:00", "sections": []})
         window = {"from": 0, "to": 900}
-        main, of_file = 175.041_667, 59.208_333
+        main, of_file = 175.0, 59.25
 
         async def demands(seat: Seat, of: str = "mine") -> list[list[float]]:
             said = await seat.ask("figures", of=of, **window)
-            for side in (said["before"], said["after"]):
-                self.assertEqual(side["lost"], [one - came for one, came in zip(side["asked"], side["entered"])])
-            return [[round(asked, 6) for asked in side["asked"]] for side in (said["before"], said["after"])]
+            for side in ("before", "after"):
+                asked, came = at_inlets(said, side, "demand"), at_inlets(said, side, "admitted")
+                for lost, one, other in zip(at_inlets(said, side, "lost"), asked, came):
+                    self.assertAlmostEqual(lost, one - other, delta=2 * one ** 0.5 + 3)
+            return [[round(asked, 6) for asked in at_inlets(said, side, "demand")] for side in ("before", "after")]
 
         async with server.seat() as ada, server.seat("Ben") as ben:
             await ada.say("clock", to=900)
             lines = (await ada.ask("layers", **{"from": 0}))["layers"]
             planned = [(line["shape"], line["demand"]) for line in lines if line.get("planned")]
             self.assertEqual([(shape[1], shape[3], demand) for shape, demand in planned if shape],
-                             [(0, 0, 900), (0, 300, 600.25), (1, 0, 200), (1, 300, 200), (1, 600, 310.5)])
+                             [(0, 0, 900), (0, 300, 600), (1, 0, 200), (1, 300, 200), (1, 600, 311)])
             self.assertEqual([line["kind"] for line in lines if "demand" not in line], ["block"])
             self.assertEqual(await demands(ada), 2 * [[main, of_file]])
             said = await ada.reply("gesture", at=ada.at, key="no", shape=["limit", 0, 0, 0, None, 2], demand=100)
             self.assertEqual(said["refused"], "not a command")
             # 100 cars an hour from 7:05 to 7:10; then to 7:15, by its times alone; each as if the chance were that for 100 cars an hour.
             put = await ada.ask("gesture", key="1", note="", shape=["inflow", 1, 1, 300, 600, 3_000], demand=100)
-            self.assertEqual((await demands(ada))[1], [main, 50.875])
+            self.assertEqual((await demands(ada))[1], [main, 50.916_667])
             line = {"layer": put["stamp"]}
             await ada.ask("gesture", key="2", note="", shape=["inflow", 1, 1, 300, 900, 3_000], **line)
             asked = [main, 33.333_333]
@@ -194,8 +197,7 @@ class Freeways(Case):
             await ben.ask("undo", key="4", stamp=again["stamp"])
             self.assertEqual(await demands(ben), 2 * [asked])
             days = await ada.ask("days", of="mine", **window)
-            lost = next(one["after"][0] for one in days["figures"] if one["name"] == "lost")
-            self.assertLess(abs(lost or 0), 30)
+            self.assertLess(abs(value(days, "after", "lost")), 30)
             html = (await ada.ask("report", of="mine", title="A road", works=[], **window))["html"]
             self.assertRegex(html, "main road: 900 from 07:00, 600 from 07:05")
             self.assertRegex(html, "<svg[^>]*>.{0,400}Demand.{0,4000}on-ramp at km 0.45")

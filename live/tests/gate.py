@@ -26,14 +26,18 @@ PATIENCE = 60.0  # seconds until a second site must hold what was shared
 LEAST = 0.5  # the part of the gestures of a verb that must be confirmed, else they try nothing
 TEXTS = ["", "works", "x" * 199 + " y", "x" * 200, "a \u200b b", "\u202eabc", " a ", "a\tb\nc", "\ufeff", "é" * 300, "\u2066a\u2069", "\x00a",
          "a\u00a0b", "\u3000", "👩‍💻", "a" * 63 + " b", "\ufffe", "\ue000", "x" * 70, "\u2028a", "\U000e0041", '"\\', "\ud7ff"]
-KINDS = {"block": (120, 1), "limit": (6, 9), "slow": (6, 65_536), "start": (6, 65_536), "inflow": (2, 65_536), "watch": (3, 1)}
-HOSTILE: list[Any] = [None, -1, 0, 1, 5, 1 << 20, (1 << 20) + 1, 1 << 31, 1 << 32, 1 << 53, 10 ** 30, 0.5, True, "", "x", [], {}, [1, 65]]
+KINDS = {"block": (120, 1), "limit": (6, 9), "slow": (6, 65_536), "start": (6, 65_536), "inflow": (2, 65_536), "watch": (3, 1),
+         "capacity": (6, 9)}
+HOSTILE: list[Any] = [None, -1, 0, 1, 5, 1 << 20, (1 << 20) + 1, 1 << 31, 1 << 32, 1 << 53, 10 ** 30, 0.5, True, "", "x", [], {},
+                      [1, "x" * 22]]
+SITES: list[Any] = ["a-00000001", "b.c-0123abcd", "x" * 31 + "-ffffffff", "D-deadbeef", "-5-00000000", "--11111111", "e-1234567", "f-1234567G",
+                    "x" * 32 + "-ffffffff", 7]
 Command = tuple[str, dict[str, Any]]
 
 
 def operations_of(reply: Any) -> list[str]:
     """Return the operations of a reply as texts, which can be compared."""
-    return sorted(json.dumps({name: value for name, value in one.items() if name != "shared"}, sort_keys=True)
+    return sorted(json.dumps({name: value for name, value in one.items() if name not in ("shared", "seat")}, sort_keys=True)
                   for one in reply["operations"])
 
 
@@ -43,8 +47,8 @@ class Hand:
     def __init__(self, seed: int) -> None:
         self.draw = random.Random(seed)
         self.keys: list[str] = []  # of changes that may be changed or undone
-        self.edited: list[dict[str, Any]] = []  # raw edits that may be withdrawn
-        self.out: set[int] = set()  # excluded sites
+        self.sites = [*SITES]  # those that it excludes; some names cannot be those of a site
+        self.out: set[str] = set()  # excluded sites
         self.numbers = itertools.count(seed * 1_000_000)
 
     def shape(self, faults: float = 0.2) -> list[Any]:
@@ -54,6 +58,10 @@ class Hand:
         first, begin = draw.randrange(objects), draw.randrange(3_000)
         made: list[Any] = [kind, first, min(objects - 1, first + draw.randrange(4)), begin, draw.choice([None, begin + draw.randint(1, 900)]),
                            draw.randint(0, most)]
+        if kind == "capacity":
+            made[5] = [draw.randint(0, 3_000), made[5], draw.randint(0, 65_536), draw.randint(0, 65_536)]
+            if draw.random() < faults / 4:
+                made[5][draw.randrange(4)] = draw.choice(HOSTILE)
         fault = draw.random()
         if fault < faults / 2:
             made[draw.randrange(6)] = draw.choice(HOSTILE)
@@ -61,18 +69,10 @@ class Hand:
             made[1:3], made[3:5] = draw.choice([(made[2:0:-1], made[3:5]), (made[1:3], [begin + 1, begin]), (made[1:3], [begin, begin])])
         return made
 
-    def edits(self) -> list[list[Any]]:
-        found = []
-        for _ in range(self.draw.choice([1, 1, 2, 5])):
-            kind = self.draw.choice([*KINDS])
-            objects, most = KINDS[kind]
-            found.append([kind, self.draw.randrange(objects), self.draw.randrange(3_000), self.draw.choice([None, 0, most, most // 2])])
-        return found
-
     def commands(self) -> Iterator[Command]:
         """Yield commands without end, each verb as often as the others."""
         while True:
-            for make in (self.put, self.change, self.lift, self.raw, self.edit, self.withdraw, self.undo, self.again, self.site):
+            for make in (self.put, self.change, self.lift, self.undo, self.again, self.site):
                 yield make()
 
     def key(self) -> dict[str, Any]:
@@ -84,12 +84,10 @@ class Hand:
 
     def confirm(self, verb: str, fields: dict[str, Any]) -> None:
         """Note a command that was confirmed."""
-        if verb in ("put", "change", "raw"):
+        if verb in ("put", "change"):
             self.keys.append(fields["key"])
         elif verb in ("undo", "lift") and fields.get("stamp", fields.get("layer")) in self.keys:
             self.keys.remove(fields.get("stamp", fields.get("layer")))
-        elif verb == "edit":
-            self.edited.append({"object": fields["object"], "step": fields["step"]})
         elif verb == "site":
             self.out ^= {fields["site"]}
 
@@ -105,17 +103,6 @@ class Hand:
     def lift(self) -> Command:
         return "lift", {**self.key(), "layer": self.made(), "top": True}
 
-    def raw(self) -> Command:
-        drawn = {"shape": self.shape(0.4)} if self.draw.random() < 0.7 else {}
-        return "raw", {**self.key(), "edits": self.edits(), **drawn}
-
-    def edit(self) -> Command:
-        kind, index, step, value = self.edits()[0]
-        return "edit", {"object": [kind, index], "step": step, "value": value}
-
-    def withdraw(self) -> Command:
-        return "withdraw", self.edited.pop() if self.edited else {"object": ["block", 0], "step": 0}
-
     def undo(self) -> Command:
         return "undo", {**self.key(), "stamp": self.keys[-1] if self.keys else "none"}
 
@@ -123,13 +110,13 @@ class Hand:
         return "again", {"key": self.key()["key"], "stamp": self.made()}
 
     def site(self) -> Command:
-        site = self.draw.choice([3, 7, 8, 9, 1_022, 1_023, 1_024, 1, 0])
+        site = self.draw.choice(self.sites)
         return "site", {**self.key(), "site": site, "out": site not in self.out}
 
 
 class Gate(Case):
     def sites(self, broker: Broker) -> tuple[Server, Server]:
-        first, second = (self.server("--broker", broker.address, "--site", str(site)) for site in (1, 2))
+        first, second = (self.server("--broker", broker.address, "--site", site) for site in ("north", "south"))
         return first, second
 
     async def test_what_is_confirmed_is_read_by_the_next_start_and_by_every_site(self) -> None:
@@ -152,9 +139,10 @@ class Gate(Case):
             seat = first.seat(f"{hand.draw.choice(TEXTS)} Ada \u200b \u202e")
             for _ in range(most // EACH):
                 async with seat as tab:
+                    hand.sites[-1] = tab.welcome["site"]  # which cannot exclude itself
                     for verb, fields in itertools.islice(commands, EACH):
                         tried[verb] += 1
-                        reply = await tab.reply("gesture" if verb in ("put", "change", "lift", "raw") else verb, at=tab.at, **fields)
+                        reply = await tab.reply("gesture" if verb in ("put", "change", "lift") else verb, at=tab.at, **fields)
                         if "refused" not in reply:
                             confirmed[verb] += 1
                             hand.confirm(verb, fields)
@@ -173,19 +161,19 @@ class Gate(Case):
                     return operations_of(await sam.say("operations", at="shared")) == shared
                 await until(holds, "the second site takes what was confirmed at the first", PATIENCE)
 
-    async def test_a_drawn_shape_that_no_site_reads_is_refused(self) -> None:
+    async def test_a_shape_that_no_site_reads_is_refused(self) -> None:
         async with Here() as here:
             await here.join("Ada")
-            for drawn in (["block", 3, 3, 30, 20, 1], ["block", 4, 3, 20, 30, 1], ["block", 3, 3, 20, 20, 1]):
+            for shape in (["block", 3, 3, 30, 20, 1], ["block", 4, 3, 20, 30, 1], ["block", 3, 3, 20, 20, 1]):
                 with self.assertRaises(Refused) as refused:
-                    await here.ask(1, "gesture", key="k", edits=[["block", 3, 20, 1]], shape=drawn)
-                self.assertEqual(refused.exception.text, "not a command", drawn)
+                    await here.ask(1, "gesture", key="k", shape=shape)
+                self.assertIn(refused.exception.text, ("Range", "NoObject"), shape)
             self.assertEqual([kind for entry in here.entries() for kind in entry], ["lab", "seat"])
 
     async def test_texts_are_cleaned_once_for_all(self) -> None:
         """A clean text stays as it is, so each site reads it."""
         bus = Bus()
-        one, two = [await self.enterAsyncContext(Here(site=number)) for number in (1, 2)]
+        one, two = [await self.enterAsyncContext(Here(site=name)) for name in ("north", "south")]
         bus.site(one), bus.site(two)
         await one.join("Ada")
         cases = {"x" * 199 + " y": "x" * 199, "a \u200b b": "a b", "\u202eabc": "abc", "a\tb\nc": "a b c", "\ufeff": "", "é" * 300: "é" * 200}
@@ -242,7 +230,7 @@ class Gate(Case):
                 site = bus.site(again)
                 site._send_unreturned()
                 sent = [one for message in bus.sent if message.topic.endswith("operations")
-                        for one in json.loads(message.payload)["operations"]]
+                        for one in json.loads(message.payload.partition(b"\n")[2])["operations"]]
                 self.assertEqual([one.get("note") for one in sent], ["first", "third", "d", "e"])
                 with self.assertRaises(Refused):
                     await again.ask(1, "leave")  # the change that cannot be read would be lost

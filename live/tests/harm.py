@@ -9,19 +9,20 @@ from typing import Any, Iterator, Mapping
 from unittest import mock
 
 from crashes import numbers
-from faulty import Bus, Here, message_of, soon, told
+from faulty import Bus, Here, message_of, soon, told, written
 from running import ALL, LIVE, SMALL, Case
-from server.journal import stamps
 from server.tabs import verbs
 from server.tabs.asked import CommandFields
 from server.tabs.refusals import MEANINGS, OF_THE_FORMAT, Refused
-from server.model.operations import About, Operation, Shape, put
+from server.model.operations import About, Shape, put
 from server.model.projection import all_edits
 from server.roads.screen import rows_of
 from server.sites.floods import Floods
+from server.sites.sites import Sites
 
 JUNK: list[Any] = [None, True, -1, 0, 1, 5, 119, 1 << 20, 1 << 48, 10 ** 30, 0.5, "", "block", "k", "shared", "before", "x" * 300, [], {},
-        [[]], [1, 65]]
+        [[]], [1, "M47dx6_hno3g_1R9IF57TQ"], [1, 65]]
+STAMP = [1, "M47dx6_hno3g_1R9IF57TQ"]
 
 
 def asked_well(number: int) -> list[tuple[str, dict[str, Any]]]:
@@ -31,14 +32,22 @@ def asked_well(number: int) -> list[tuple[str, dict[str, Any]]]:
     return [
         ("gesture", {**made, "shape": ["block", 60, 61, number % 90, None, 1]}),
         ("gesture", {**made, "layer": former, "shape": None, "top": True}),
-        ("gesture", {**made, "edits": [["limit", 1, number % 90, 3], ["block", 7, 5, None]]}),
-        ("undo", {**made, "stamp": former}), ("again", {"key": f"{number}", "stamp": [1, 65]}),
-        ("site", {**made, "site": 2, "out": True}), ("send", {"name": "shared", "stamps": [[1, 65]]}),
+        ("gesture", {**made, "shape": ["capacity", 1, 2, number % 90, None, [900, 2, 9_000, 20_000]]}),
+        ("undo", {**made, "stamp": former}), ("again", {"key": f"{number}", "stamp": STAMP}),
+        ("site", {**made, "site": "eve-00000000", "out": True}), ("send", {"name": "shared", "stamps": [STAMP]}),
         ("take", {"message": "shared"}), ("layers", {"from": 0}), ("operations", {"from": 0}), ("advance", {"to": 60}),
         ("diagram", {"from": 0, "to": 20, "every": 1, "cells": [0, 50]}), ("cells", {"step": 5}), ("cars", {"step": 5}),
         ("count", {"detector": 1, "from": 0, "to": 5}), ("counts", {"from": 0, "to": 5, "each": 1}), ("scenario", {}),
-        ("sums", {"from": 0, "to": 60}), ("preview", {"what": "share", "stamps": [[1, 65]]}), ("seats", {}),
+        ("sums", {"from": 0, "to": 60}), ("preview", {"what": "share", "stamps": [STAMP]}), ("seats", {}),
         ("csv", {"what": "counts", "from": 0, "to": 5, "each": 1}), ("clock", {"rate": 0})]
+
+
+def renamed(value: Any) -> Any:
+    """Return an operation under the name that its text gives it; another value as it is."""
+    if not isinstance(value, dict) or not isinstance(value.get("stamp"), list) or not value["stamp"]:
+        return value
+    count, fields = value["stamp"][0], {name: one for name, one in value.items() if name != "stamp"}
+    return written(count, **{"site": None, **fields})
 
 
 def places_in(value: Any) -> Iterator[tuple[Any, Any]]:
@@ -49,40 +58,41 @@ def places_in(value: Any) -> Iterator[tuple[Any, Any]]:
         yield from places_in(value[key])
 
 
+def announced(sites: Sites, **more: Any) -> bytes:
+    """Return an announcement of another site."""
+    return json.dumps({"form": 4, "site": "south-00000000", "host": "there", "road": sites._road, "count": 0, **more}).encode()
+
+
 class Bounds(Case):
     async def test_a_flooding_site_is_ignored_for_a_while_and_reported(self) -> None:
         bus = Bus()
-        one, two = [await self.enterAsyncContext(Here(site=number)) for number in (1, 2)]
+        one, two = [await self.enterAsyncContext(Here(site=name)) for name in ("north", "south")]
         first, second = bus.site(one), bus.site(two)
         now = [0.0]
-        first._floods = Floods(lambda: now[0])
         await bus.rounds()
-        with mock.patch("server.sites.floods.MESSAGE_BURST", 20), mock.patch("server.sites.floods.MESSAGES_PER_SECOND", 1):
+        await two.join("Ben")
+        with mock.patch.multiple("server.sites.floods", MESSAGE_BURST=20, MESSAGES_PER_SECOND=1, WORK=0):
             first._floods = Floods(lambda: now[0])
-            for _ in range(30):
-                second._announce_site()
-            await bus.carry()
-            self.assertIn("Site 2 sends too many messages: they are ignored for 30 seconds", " ".join(first.state()["stays"]))
-            await two.join("Ben")
-            await two.put(1, ["limit", 2, 50, 3])
-            await two.share(1)
-            await bus.carry()
-            self.assertEqual(one.lab.state.shared.size, 0)
+            for step in range(30):
+                await two.put(1, ["limit", 2, step, 3])
+                await two.share(1)
+                await bus.carry()
+            self.assertIn(f"Site {two.lab.state.site} sends too many messages: they are ignored for 30 seconds", told(first))
+            self.assertEqual(one.lab.state.shared.size, 21)
             now[0] += 29
-            first._peers.known.clear()
-            second._announce_site()
-            await bus.carry()
-            self.assertEqual(first._peers.known, {})
-            now[0] += 2
             second._sent.clear()
-            await bus.rounds(3)
-            self.assertEqual(one.lab.state.shared.size, 1)
-            self.assertNotIn("too much", " ".join(first.state()["stays"]))
+            second._send_unreturned()
+            await bus.carry()
+            self.assertEqual(one.lab.state.shared.size, 21)
+            now[0] += 2
+            await bus.rounds(4)
+            self.assertEqual(one.lab.state.shared.size, 30)
+            self.assertNotIn("too many", told(first))
 
     async def test_a_site_whose_messages_take_much_work_is_ignored_for_a_while(self) -> None:
         """The limit is 6 seconds of work in a burst, and half of the time in the long run; a second counts as 1,000 messages."""
         bus = Bus()
-        one, two = [await self.enterAsyncContext(Here(site=number)) for number in (1, 2)]
+        one, two = [await self.enterAsyncContext(Here(site=name)) for name in ("north", "south")]
         first, second = bus.site(one), bus.site(two)
         now, work = [0.0], [0.0]
         first._floods = Floods(lambda: now[0])
@@ -99,17 +109,18 @@ class Bounds(Case):
                 await bus.carry()
                 now[0] += seconds
         self.assertEqual(one.lab.state.shared.size, 4)
-        self.assertIn("Site 2 sends too many messages: they are ignored for 30 seconds", " ".join(first.state()["stays"]))
+        self.assertIn(f"Site {two.lab.state.site} sends too many messages: they are ignored for 30 seconds", told(first))
         self.assertEqual(second._floods.ignored_senders(), [])  # the site does not ignore its own messages
 
     async def test_what_is_refused_counts_as_work_and_a_message_gives_one_sentence(self) -> None:
         """So a site that sends nothing but operations that are refused is ignored, too."""
         bus = Bus()
-        one, two = [await self.enterAsyncContext(Here(site=number)) for number in (1, 2)]
+        one, two = [await self.enterAsyncContext(Here(site=name)) for name in ("north", "south")]
         first, second = bus.site(one), bus.site(two)
         await bus.rounds()
         first._floods, work = Floods(lambda: 0.0), [0.0]
-        refused = [put((count, 129), Shape("block", 60, 60 + count % 2 * 1_000, count, None, 2), About("Ben")) for count in range(1, 301)]
+        refused = [put(count, Shape("block", 60, 60 + count % 2 * 1_000, count, None, 2), About("Ben", site="south-00000000"))
+                   for count in range(1, 301)]
         message = message_of(second, *refused)
         before = len(first.state()["told"])
 
@@ -118,59 +129,57 @@ class Bounds(Case):
             return work[0]
         with mock.patch("server.sites.sites.thread_time", worked), self.assertLogs(level="WARNING") as logs:
             for number in range(3):
-                await first._receive(message.topic, two.lab.state.folder, message.payload)
+                await first._receive(message.topic, second._seal.run, message.payload)
                 self.assertEqual(len(first.state()["told"]), before + 1)
         self.assertEqual(len(logs.output), 1)
         self.assertIn("300 operations of a message were ignored. The first: ", told(first))
         self.assertEqual(one.lab.state.shared.size, 0)
         # Each operation took 0.01 seconds, of 6 that are allowed at once.
-        self.assertIn("Site 2 sends too many messages", told(first) if first._floods.count_message(two.lab.state.folder) else "")
+        self.assertTrue(first._floods.count_message(second._seal.run))
+        self.assertIn(second._seal.run, first._floods.ignored_senders())
 
     async def test_every_site_accepts_exactly_the_operations_that_a_tab_may_make(self) -> None:
-        """Sites and tabs have the same limits: here a closure of 600 cells in raw edits, and a drag of its end, which withdraws
-        them all."""
+        """Sites and tabs have the same limits: here a closure of 600 cells, and one of 601."""
         bus, plan = Bus(), {**SMALL, "length": 1_300, "zone": 100, "zones": [[5, 0]] * 13, "detectors": []}
-        one, two = [await self.enterAsyncContext(Here(site=number, plan=plan)) for number in (1, 2)]
+        one, two = [await self.enterAsyncContext(Here(plan=plan)) for _ in range(2)]
         first, _ = bus.site(one), bus.site(two)
         await two.join("Ben")
-        edits = [["block", cell, step, value] for cell in range(600) for step, value in ((5, 1), (15, 0))]
-        line = await two.put(1, *edits)
-        await two.ask(1, "gesture", key="drag", layer=list(line), shape=["block", 0, 599, 5, 25, 1])
+        line = (await two.ask(1, "gesture", key="k", shape=["block", 0, 599, 5, 15, 1]))["stamp"]
+        await two.ask(1, "gesture", key="drag", layer=list(line), shape=["block", 100, 699, 5, 25, 1])
         await two.share(1)
         await bus.rounds(2)
         self.assertEqual(one.lab.state.shared.road.layers, two.lab.state.shared.road.layers)
         self.assertEqual(one.lab.state.shared.road.layers.keys(), {line})
-        stamp = line[0] + 9, 2 * 64 + 1
-        large = Operation(stamp, {(stamp[0] - place, stamp[1]): Shape("block", 0, 300, 5, None, 1) for place in range(2)})
-        good = put((stamp[0] + 1, stamp[1]), Shape("block", 700, 700, 5, None, 1))
+        with self.assertRaisesRegex(Refused, "TooManyObjects"):
+            await two.ask(1, "gesture", key="large", shape=["block", 0, 600, 5, 15, 1])
+        large, good = (put(line[0] + 9, Shape("block", 0, last, 5, None, 1), About(site="eve-00000000")) for last in (600, 599))
         message = message_of(first, large, good)
         await first._receive(message.topic, "f", message.payload)
-        self.assertIn("at most 600 objects, not 602", told(first))
+        self.assertIn("at most 600 objects, not 601", told(first))
         self.assertIn(good.stamp, [each.stamp for each in one.lab.state.shared.places])  # valid operations of the message came
-        self.assertEqual(first._early, {})
 
-    async def test_an_undo_that_does_something_else_is_refused(self) -> None:
-        """It would be in force and in no list; the other operations of its message are taken."""
-        here = await self.enterAsyncContext(Here(site=1, plan=SMALL))
-        site, number = Bus().site(here), 2 * 64 + 1
-        good = put((1, number), Shape("limit", 1, 1, 5, None, 1))
-        layer = Operation((2, number), {(2, number): Shape("limit", 2, 2, 5, None, 1)}, undoes=good.stamp)
-        height = Operation((3, number), heights={good.stamp: (3, number)}, undoes=good.stamp)
-        exclusion = Operation((4, number), undoes=good.stamp, excludes=(3, True))
-        for one in (layer, height, exclusion):
-            message = message_of(site, one, good)
-            await site._receive(message.topic, "f", message.payload)
-            self.assertEqual([one.stamp for one in here.lab.state.shared.places], [good.stamp])
-            self.assertIn(f"the operation {list(one.stamp)} undoes another one, so it must do nothing else", told(site))
+    async def test_an_undo_or_an_exclusion_that_does_something_else_is_refused(self) -> None:
+        """It would be in force and in no list, or although its site is out; the other operations of its message are taken."""
+        here = await self.enterAsyncContext(Here(plan=SMALL))
+        site, shape = Bus().site(here), ["limit", 2, 2, 5, None, 1]
+        good = written(1, shape=shape)
+        for base in ({"undoes": good["stamp"]}, {"excludes": ["north-00000000", True]}):
+            for more in ({"shape": shape}, {"layer": good["stamp"]}, {"layer": good["stamp"], "top": True}, {"seen": good["stamp"]},
+                         {"undoes": good["stamp"], "excludes": ["north-00000000", True]}):
+                site._told.clear()
+                one = written(2, **base, **{name: value for name, value in more.items() if name not in base}, who="Eve")
+                body = json.dumps({"form": 4, "operations": [one, good]}).encode()
+                await site._receive(f"road/{site._road}/operations", "f", body)
+                self.assertEqual([[*each.stamp] for each in here.lab.state.shared.places], [good["stamp"]])
+                self.assertIn("undoes another one or excludes a site, so it must do nothing else", told(site))
 
     async def test_an_operation_without_an_effect_is_refused_with_a_sentence(self) -> None:
-        here = await self.enterAsyncContext(Here(site=1))
+        here = await self.enterAsyncContext(Here())
         await here.join("Ada")
         line = list(await here.put(1, ["limit", 1, 50, 4]))
         await here.ask(1, "gesture", key="w", layer=line, shape=None)
         cases: list[tuple[dict[str, Any], str]] = [
-            ({"layer": line, "shape": None}, "nothing to withdraw"), ({"layer": line, "top": True}, "on top already"),
-            ({"edits": [["limit", 1, 50, None]]}, "nothing to withdraw")]
+            ({"layer": line, "shape": None}, "nothing to withdraw"), ({"layer": line, "top": True}, "on top already")]
         for what, why in cases:
             with self.assertRaisesRegex(Refused, "NoEffect") as caught:
                 await here.ask(1, "gesture", key="again", **what)
@@ -178,56 +187,58 @@ class Bounds(Case):
         self.assertEqual(len(here.lab.state.seats[1].own), 2)
 
     async def test_shapes_and_edits_of_sites_are_checked_against_the_plan(self) -> None:
-        here = await self.enterAsyncContext(Here(site=1))
-        site = Bus().site(here)
-        stamp = [stamps.next_count(0, stamps.milliseconds(), 0), 70 * 64 + 1]
+        here = await self.enterAsyncContext(Here())
+        site, older = Bus().site(here), written(1, shape=["limit", 1, 1, 5, None, 1])["stamp"]
 
-        def put(*shape: Any, name: Any = stamp, **more: Any) -> dict[str, Any]:
-            return {"sets": [[name, list(shape)]], **more}
-
-        def raw(*edit: Any) -> dict[str, Any]:
-            return {"sets": [[list(edit[:3]), edit[3]]]}
-        good = put("block", 60, 61, 30, None, 1)
+        def put(*shape: Any, **more: Any) -> dict[str, Any]:
+            return written(9, shape=list(shape), **{"who": "Eve", **more})
+        closure = ("block", 60, 61, 30, None, 1)
+        good = put(*closure)
         for wrong in (
                 put("block", 0, 120, 30, None, 1), put("limit", 6, 6, 30, None, 3), put("block", 61, 60, 30, None, 1),
                 put("block", 60, 60, 1 << 20, None, 1), put("block", 60, 60, 30, 30, 1), put("block", 60, 60, 30, 1 << 20, 1),
                 put("block", 60, 60, 30, None, 2), put("limit", 1, 1, 30, None, 10), put("bloc", 60, 60, 30, None, 1),
                 put("block", 60, 60, -1, None, 1), put("block", 60, 60, 0.5, None, 1), put("block", "60", 60, 30, None, 1),
-                put("block", 60, 60, 30, None, 1, heights=[[stamp, [stamp[0] + 1, 1]]]),
-                put("block", 60, 60, 30, None, 1, name=[stamp[0] + 1, 1]), put("block", 60, 60, 30, None),
-                put("block", 60, 60, 30, None, 1, seen=stamp), put("block", 60, 60, 30, None, 1, undoes=[stamp[0] + 1, 1]),
-                put("block", 60, 60, 30, None, 1, name="x"), put("block", 60, 60, 30, None, 1, heights=[[stamp, None]]),
-                put("block", 60, 60, 30, None, 1, who="x\u202e"), put("block", 60, 60, 30, None, 1, note=7),
-                put("block", 60, 60, 30, None, 1, more="x" * 1_001),
-                raw("block", 120, 30, 1), raw("limit", 1, 30, 10), raw("what", 1, 30, 1), raw("limit", 1, 1 << 20, 1),
-                *({"sets": sets} for sets in (good["sets"] * 2, [], {}, [7], None)), {"known": 5, "edits": []},
-                {"excludes": [0, True]}, {"excludes": [3, 1]}, {"undoes": 7},
-                *({**good, "stamp": other} for other in ([stamp[0], 70_000], [stamp[0], 3], [1 << 49, 70], [0, 70], "x"))):
+                put("block", 60, 60, 30, None), put("capacity", 1, 2, 30, None, 900), put("capacity", 1, 6, 30, None, [900, 2, 0, 0]),
+                put("capacity", 1, 2, 30, None, [900, 10, 0, 0]), put("capacity", 1, 2, 30, None, [900, 2, 65_537, 0]),
+                put("capacity", 1, 2, 30, None, [-1, 2, 0, 0]), put("capacity", 1, 2, 30, None, [900, 2, 0]),
+                put("limit", 1, 2, 30, None, [900, 2, 0, 0]),
+                put(*closure, top=True), put(*closure, top=1), put(*closure, layer=[9, older[1]]), put(*closure, layer="x"),
+                put(*closure, layer=[10, older[1]]), put(*closure, seen=[9, older[1]]), put(*closure, undoes=older),
+                put(*closure, who="x\u202e"), put(*closure, who=" x"), put(*closure, note=7), put(*closure, when=0.5),
+                put(*closure, more="x" * 1_001), put(*closure, more=[0.5]), put(*closure, more={"x": [1 << 53]}),
+                put(*closure, site="eve"), put(*closure, site="-00000000"), put(*closure, site=f"{'x' * 32}-00000000"),
+                put(*closure, site="eve-0000000G"), put(*closure, site=7), put(*closure, site=None),
+                written(9, known=5, sets=[]), written(9), written(9, top=True), written(9, seen=older), written(9, undoes=7),
+                written(9, excludes=["eve-00000000", True]), written(9, excludes=["north-00000000", 1]), written(9, excludes=[3, True]),
+                *({**good, "stamp": [count, good["stamp"][1]]} for count in (8, -1, 0.5, "9", 1 << 53)),
+                *({**good, "stamp": [9, name]} for name in ("", "x" * 22, older[1], 7, None)), {**good, "stamp": "x"}):
             site._told.clear()
-            body = json.dumps({"form": 3, "operations": [{"stamp": stamp, "who": "Eve", **wrong}]}).encode()
+            body = json.dumps({"form": 4, "operations": [wrong]}).encode()
             await site._receive(f"road/{site._road}/operations", "", body)
             self.assertEqual((len(site._told), here.lab.state.shared.size), (1, 0), wrong)
             self.assertIn("was ignored", site._told[0])
-        body = json.dumps({"form": 3, "operations": [{"stamp": stamp, "who": "Eve", **good}, 7]}).encode()
+        body = json.dumps({"form": 4, "operations": [good, 7]}).encode()
         await site._receive(f"road/{site._road}/operations", "", body)
         self.assertEqual([one.about.who for one in here.lab.state.shared.places], ["Eve"])
 
     async def test_a_changed_message_is_taken_or_reported_whatever_was_changed(self) -> None:
         """The program accepts everything that the server accepted."""
-        here = await self.enterAsyncContext(Here(site=1))
+        here = await self.enterAsyncContext(Here())
         site, chance = Bus().site(here), random.Random(1)
         with mock.patch("logging.error") as error, mock.patch("logging.exception", error):
             for number in range(600 if ALL else 200):
-                stamp = [stamps.next_count(number, stamps.milliseconds(), 0), 70 * 64 + 1]
-                operation = {"stamp": stamp, "who": "Eve", "note": "", "when": 1, "excludes": [2, False],
-                             "seen": [stamp[0] - 2, 71], "sets": [[stamp, ["block", 60, 61, 30, None, 1]], [["limit", 1, 20], 3]],
-                             "heights": [[[stamp[0] - 1, 70], stamp]]}
-                undo = {"stamp": [stamp[0], stamp[1] + 1], "who": "Eve", "undoes": [stamp[0] - 1, 70]}
-                message: dict[str, Any] = {"form": 3, "operations": [operation, undo], "who": "Eve", "title": ""}
+                count = 3 * number + 9
+                put = written(count, who="Eve", when=1, shape=["block", 60, 61, 30 + number % 9, None, 1])
+                change = written(count + 1, who="Eve", layer=put["stamp"], shape=["limit", 1, 2, 20, None, 3], top=True, seen=STAMP)
+                operations = [put, change, written(count + 2, undoes=change["stamp"]), written(count, excludes=["north-00000000", True])]
+                message: dict[str, Any] = {"form": 4, "operations": operations, "title": ""}
                 places = list(places_in(message))
                 for _ in range(chance.randrange(1, 3)):
                     parent, key = chance.choice(places)
                     parent[key] = chance.choice([*JUNK, "\ud800"])
+                if chance.random() < 0.7:  # under the names that their texts have
+                    message["operations"] = [renamed(one) for one in operations]
                 topic = chance.choice(["operations", "operations", "sum"])
                 await site._receive(f"road/{site._road}/{topic}", "f", json.dumps(message).encode())
         self.assertEqual(error.call_args_list, [])
@@ -238,28 +249,27 @@ class Bounds(Case):
     async def test_missing_operations_are_sent_after_a_hash_is_heard_twice(self) -> None:
         """A site that lacks operations gets them once. A site with another version of the protocol gets nothing."""
         bus = Bus()
-        here = await self.enterAsyncContext(Here(site=1))
+        here = await self.enterAsyncContext(Here())
         site = bus.site(here)
         ada, = await here.join("Ada")
         await here.put(ada, ["limit", 1, 50, 4])
         await here.share(ada)
         await bus.carry()
-        announced = json.dumps({"folder": "f", "run": "r", "site": 2, "road": site._road, "form": 3}).encode()
-        for form, is_here, sent in ((2, True, []), (3, False, []), (3, True, ["operations"])):
+        for form, is_here, sent in ((3, True, []), (4, False, []), (4, True, ["operations"])):
             site._peers.known.clear()
             if is_here:
-                await site._receive("road/sites", "f", announced)
+                await site._receive("road/sites", "f", announced(site))
             for _ in range(3):
-                body = json.dumps({"folder": "f", "form": form, "sum": "0", "ranges": [[None, "0"]], "timeline": "?"}).encode()
+                body = json.dumps({"form": form, "sum": "0", "ranges": [[None, "0"]], "timeline": "?"}).encode()
                 await site._receive(f"road/{site._road}/sum", "f", body)
             self.assertEqual([one.topic.rpartition("/")[2] for one in bus.sent], sent)
 
     async def test_two_sites_that_derive_different_roads_from_the_same_changes_say_so(self) -> None:
         bus = Bus()
-        here = await self.enterAsyncContext(Here(site=1))
+        here = await self.enterAsyncContext(Here())
         site = bus.site(here)
-        await site._receive("road/sites", "f", json.dumps({"folder": "f", "run": "r", "site": 2, "road": site._road, "form": 3}).encode())
-        body = json.dumps({"folder": "f", "form": 3, "sum": site._sum_up().total, "ranges": site._sum_up().ranges(),
+        await site._receive("road/sites", "f", announced(site))
+        body = json.dumps({"form": 4, "sum": site._sum_up().total, "ranges": site._sum_up().ranges(),
                            "timeline": await site._hash_road()}).encode()
         await site._receive(f"road/{site._road}/sum", "f", body)
         self.assertNotIn("another road", told(site))
@@ -267,29 +277,31 @@ class Bounds(Case):
         self.assertIn("has the same changes but computes a different road from them", told(site))
         self.assertEqual(bus.sent, [])
 
-
     async def test_announcements_of_unknown_sites_are_bounded(self) -> None:
         bus = Bus()
-        here = await self.enterAsyncContext(Here(site=1))
+        here = await self.enterAsyncContext(Here())
         site = bus.site(here)
         for number in range(1_100):
-            name = f"{number}" + "x" * 5_000
-            for topic, value in (("road/sites", {"site": number % 1_000 + 2, "road": name, "run": name}),
-                                 (f"road/{site._road}/sum", {"form": 3, "sum": name, "ranges": [[None, ""]]}),
-                                 (f"road/{site._road}/sum", {"form": 3, "sum": name, "ranges": [[None, name[:9]]]})):
-                await site._receive(topic, "", json.dumps({"folder": name, **value}).encode())
-        everything: list[Mapping[Any, object]] = [site._peers.known, site._sums, site._pauses, here.lab.state.bound]
+            name, run = f"{number}" + "x" * 5_000, f"{number:016x}"
+            await site._receive("road/sites", run, announced(site, road=name, host=name))
+            for begin in ("", name[:9]):
+                body = json.dumps({"form": 4, "sum": name, "ranges": [[None, begin]]}).encode()
+                await site._receive(f"road/{site._road}/sum", run, body)
+            await site._receive(f"road/{site._road}/operations", run, json.dumps({"form": 4, "operations": [], "title": name}).encode())
+        everything: list[Mapping[Any, object]] = [site._peers.known, site._sums, site._pauses]
         for kept in everything:
             self.assertLessEqual(len(kept), 1_024)
             self.assertLess(len(str(kept)), 200_000)
         self.assertLess(len(json.dumps(site.state())), 100_000)
-        for wrong in (0, -1, 1_024, True, "7", None, 1 << 70):
-            await site._receive("road/sites", "", json.dumps({"folder": "f", "site": wrong, "road": "r"}).encode())
-        self.assertIn("it does not say which site sent it", told(site))
+        wrongs: list[dict[str, Any]] = [{"site": 7}, {"site": "eve"}, {"site": None}, {"host": 7}, {"road": None}, {"count": -1}, {"count": "x"}]
+        for wrong in wrongs:
+            site._told.clear()
+            await site._receive("road/sites", "", announced(site, **wrong))
+            self.assertIn("it does not say which site sent it", told(site), wrong)
 
     async def test_an_operation_that_does_not_come_back_is_resent_after_growing_pauses(self) -> None:
         bus = Bus()
-        here = await self.enterAsyncContext(Here(site=1))
+        here = await self.enterAsyncContext(Here())
         site = bus.site(here)
         await here.join("Ada")
         await here.put(1, ["limit", 2, 50, 3])
@@ -308,7 +320,7 @@ class Bounds(Case):
 
     async def test_a_site_that_lacks_many_operations_gets_them_in_pieces(self) -> None:
         bus = Bus()
-        one, two = [await self.enterAsyncContext(Here(site=number)) for number in (1, 2)]
+        one, two = [await self.enterAsyncContext(Here(site=name)) for name in ("north", "south")]
         bus.site(one)
         await one.join("Ada")
         for step in range(25):
@@ -321,7 +333,7 @@ class Bounds(Case):
             for _ in range(6):
                 bus.seen.clear()
                 await bus.rounds()
-                told = [json.loads(each.payload) for each in bus.seen if each.topic.endswith("operations")]
+                told = [json.loads(each.payload.partition(b"\n")[2]) for each in bus.seen if each.topic.endswith("operations")]
                 counts.append(sum(len(each["operations"]) for each in told))
         self.assertEqual((counts, two.lab.state.shared.size), ([0, 10, 10, 5, 0, 0], 25))
 
@@ -351,7 +363,7 @@ class Changes(unittest.TestCase):
     def test_the_commands_that_the_page_lists_as_changes_are_marked(self) -> None:
         text = (LIVE / "PROTOCOL.md").read_text(encoding="utf-8").partition("### Changing your own road\n")[2].partition("\n### ")[0]
         listed = {name for line in re.findall("^- (.*)$", text, re.MULTILINE) for name in re.findall(r"`(\w+)` \{", line)}
-        others = {"clock", "leave", "unbind"}  # of the clock, seats and sites
+        others = {"clock", "leave"}  # of the clock and of seats
         self.assertEqual({verb for verb in verbs.VERBS if verbs.is_change(verb)}, listed | others)
         self.assertFalse(verbs.is_change("nothing"))
 
@@ -359,7 +371,7 @@ class Changes(unittest.TestCase):
 class Tabs(Case):
     async def test_every_question_of_a_tab_is_answered_or_refused(self) -> None:
         """A refusal has a sentence, and the program accepts everything that the server accepted."""
-        here = await self.enterAsyncContext(Here(site=1))
+        here = await self.enterAsyncContext(Here())
         chance = random.Random(1)
         await here.join("Eve")
         refused = 0

@@ -160,13 +160,13 @@ class Frames(Case):
 
     async def test_malformed_commands_are_refused_and_change_nothing(self) -> None:
         async with self.a6.seat("good") as good, self.a6.seat("bad") as bad:
-            edits = [["limit", 1, 5, 1]]
+            shape, stamp = ["limit", 1, 1, 5, None, 1], [9, "M47dx6_hno3g_1R9IF57TQ"]
             for verb, fields, refusal in (
                     ("diagram", {"at": good.at, "from": 0, "to": 5}, "NotYourReplica"),
-                    ("gesture", {"at": good.at, "edits": edits, "key": "k"}, "NotYourReplica"),
-                    ("gesture", {"at": "shared", "edits": edits, "key": "k"}, "NotYourReplica"),
+                    ("gesture", {"at": good.at, "shape": shape, "key": "k"}, "NotYourReplica"),
+                    ("gesture", {"at": "shared", "shape": shape, "key": "k"}, "NotYourReplica"),
                     ("take", {"at": good.at, "message": "shared"}, "NotYourReplica"),
-                    ("undo", {"at": "shared", "stamp": [1, 65], "key": "k"}, "NotYourReplica"),
+                    ("undo", {"at": "shared", "stamp": stamp, "key": "k"}, "NotYourReplica"),
                     ("import", {"at": bad.at, "edits": [], "form": 2}, "not a command"),
                     ("crowd", {"form": 2, "shares": [[]], "to": 1_000_000}, "not a command"),
                     ("heads", {"at": bad.at, "name": "x"}, "not a command"),
@@ -196,21 +196,28 @@ class Frames(Case):
                     ("cells", {"at": bad.at, "step": 0, "x\n{\"crowd\":1}": "\n"}, "not a command"),
                     ("cells", {"at": bad.at, "step": 1.5}, "not a command"),
                     ("count", {"at": bad.at, "detector": 9, "from": 0, "to": 0}, "NoDetector"),
-                    ("gesture", {"at": bad.at, "edits": edits}, "not a command"),
-                    ("gesture", {"at": bad.at, "edits": edits, "key": ""}, "not a command"),
-                    ("gesture", {"at": bad.at, "edits": edits, "key": "k" * 41}, "not a command"),
-                    ("gesture", {"at": bad.at, "edits": edits, "key": "k", "stamp": [9, 65]}, "not a command"),
-                    ("gesture", {"at": bad.at, "edits": edits, "key": "k", "note": 7}, "not a command"),
-                    ("gesture", {"at": bad.at, "edits": [["limit", 1, -5, 1]], "key": "k"}, "not a command"),
-                    ("gesture", {"at": bad.at, "edits": [["limit", 1, 5, -1]], "key": "k"}, "not a command"),
+                    ("gesture", {"at": bad.at, "shape": shape}, "not a command"),
+                    ("gesture", {"at": bad.at, "shape": shape, "key": ""}, "not a command"),
+                    ("gesture", {"at": bad.at, "shape": shape, "key": "k" * 41}, "not a command"),
+                    ("gesture", {"at": bad.at, "shape": shape, "key": "k", "stamp": stamp}, "not a command"),
+                    ("gesture", {"at": bad.at, "shape": shape, "key": "k", "note": 7}, "not a command"),
+                    ("gesture", {"at": bad.at, "edits": [["limit", 1, 5, 1]], "key": "k"}, "not a command"),
+                    ("edit", {"at": bad.at, "object": ["limit", 1], "step": 5, "value": 1}, "not a command"),
+                    ("withdraw", {"at": bad.at, "object": ["limit", 1], "step": 5}, "not a command"),
+                    ("numbers", {}, "not a command"), ("unbind", {"site": "north-00000000"}, "not a command"),
+                    ("gesture", {"at": bad.at, "shape": ["limit", 1, 1, 5, None, -1], "key": "k"}, "not a command"),
+                    ("gesture", {"at": bad.at, "shape": ["capacity", 1, 1, 5, None, [900, 2, 0]], "key": "k"}, "not a command"),
+                    ("gesture", {"at": bad.at, "shape": ["capacity", 1, 1, 5, None, [900, 10, 0, 0]], "key": "k"}, "ValueOutOfRange"),
                     ("gesture", {"at": bad.at, "shape": ["block", 60, 61, -1, None, 1], "key": "k"}, "not a command"),
                     ("gesture", {"at": bad.at, "shape": ["block", -1, 61, 5, None, 1], "key": "k"}, "not a command"),
                     ("gesture", {"at": bad.at, "shape": ["block", 60, 120, 5, None, 1], "key": "k"}, "NoObject"),
-                    ("site", {"at": bad.at, "key": "k", "site": 1, "out": True}, "OwnSite"),
-                    ("site", {"at": bad.at, "key": "k", "site": 0, "out": True}, "Range"),
-                    ("site", {"at": "shared", "key": "k", "site": 2, "out": True}, "NotYourReplica"),
-                    ("gesture", {"at": bad.at, "edits": edits, "key": "k", "shape": ["x"]}, "not a command"),
-                    ("undo", {"at": bad.at, "stamp": [1 << 49, 65], "key": "k"}, "not a command")):
+                    ("site", {"at": bad.at, "key": "k", "site": bad.welcome["site"], "out": True}, "OwnSite"),
+                    ("site", {"at": bad.at, "key": "k", "site": "north", "out": True}, "not a command"),
+                    ("site", {"at": bad.at, "key": "k", "site": 2, "out": True}, "not a command"),
+                    ("site", {"at": "shared", "key": "k", "site": "north-00000000", "out": True}, "NotYourReplica"),
+                    ("gesture", {"at": bad.at, "key": "k", "shape": ["x"]}, "not a command"),
+                    *(("undo", {"at": bad.at, "stamp": wrong, "key": "k"}, "not a command") for wrong in (
+                        [1 << 53, stamp[1]], [9, 65], [9, "x"], [9], [9, "+" * 22], [9, stamp[1], 1]))):
                 said = await bad.reply(verb, **fields) if isinstance(fields, dict) else await self.other(bad, verb, fields)
                 self.assertEqual(said.get("refused"), refusal, (verb, fields, said))
                 self.assertGreater(len(said["why"]), 10)
@@ -234,10 +241,9 @@ class Long(Case):
                  json.dumps("limit" * 12_000), f'["{"limit " * 10_000}",1]', '[["' + "limit" * 12_000 + '",1,1,1]]',
                  "[" * 900 + "]" * 900, json.dumps("7" * 60_000), json.dumps(" " * 60_000 + "7"), json.dumps('"' * 30_000)]
         reads: dict[str, Any] = {
-            "edits": CommandFields.edits, "stamps": CommandFields.stamps, "shape": CommandFields.shape, "layer": lambda asked: asked.stamp_or_key("layer"),
+            "stamps": CommandFields.stamps, "shape": CommandFields.shape, "layer": lambda asked: asked.stamp_or_key("layer"),
             "to": lambda asked: asked.whole("to"), "key": CommandFields.key, "note": lambda asked: asked.text("note", 200)}
         frames = [(f'{{"id":1,"x":{{"{name}":{value}}}}}', read) for name, read in reads.items() for value in wrong]
-        frames += [(f'{{"id":1,"x":{{"object":{value},"step":1}}}}', verbs.read_edit) for value in wrong]
         for frame, read in frames:
             with takes_at_most(0.05, frame[:40]), contextlib.suppress(Refused, RecursionError):
                 _, verb, fields = parse_frame(frame)
@@ -340,7 +346,7 @@ class Neighbours(Case):
     async def goes_on(self, seat: Seat) -> None:
         """Make gestures, and wait for their rows. (live/measure measures how long that takes.)"""
         for number in range(15):
-            await seat.ask("gesture", key=f"{number}", edits=[["limit", 3, 150, number % 5]])
+            await seat.ask("gesture", key=f"{number}", shape=["limit", 3, 3, 150, None, number % 5])
             await seat.ask("diagram", **{"from": 140, "to": 200})
 
     async def ready(self, server: Server, name: str) -> Seat:

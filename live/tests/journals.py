@@ -26,13 +26,16 @@ from server.journal.keeper import Keeper
 from server.background.settings import Settings
 from crashes import numbers
 from running import LIVE, SMALL, Case
+from server.journal.naming import Counter, can_be_said, is_far, new_site
+from server.journal.records import write_entry
 from server.journal.state import State
+from server.model.operations import About, Shape, put
+from server.model.reading import SITE
+from server.tabs.refusals import Refused
 from working import takes_at_most
 
-GESTURES: list[Any] = [{"gesture": {"seat": 1, "key": f"k{count}", "stamp": [count, 65], "who": "Ada", "when": 1,
-                         "note": "Closed é €",
-                         "edits": [["block", 60, 20 * count, 1], ["block", 60, 20 * count + 9, 0]]}}
-            for count in range(1, 4)]
+GESTURES: list[Any] = [{"made": {"seat": 1, "key": f"k{count}", "operation": put(count, Shape(
+    "block", 60, 60, 20 * count, 20 * count + 9, 1), About("Ada", "Closed é €", 1, "north-00000001")).written()}} for count in range(1, 4)]
 
 
 def line_of(entry: dict[str, Any], sum_as: str | None = "crc") -> bytes:
@@ -98,13 +101,14 @@ class Reading(unittest.TestCase):
     def test_10_000_operations_are_read_in_a_second(self) -> None:
         """However long the journal is, until questions about the shared road can be answered."""
         size = 20_000
-        entries = [{"lab": {"plan": SMALL, "site": 1, "folder": "f", "form": 3}}]
-        entries += [{"made": {"seat": 1 + count % 20, "operation": {
-            "stamp": [count, 65 + count % 20], "sets": [[[count, 65 + count % 20], ["block", count % 90, count % 90 + 19, count, count + 60, 1]]],
-            "who": "Ada", "when": count}, "key": f"key {count}", "shared": True}} for count in range(1, size + 1)]
+        about = About("Ada", site="north-00000001")
+        entries: list[Any] = [{"lab": {"form": 4, "plan": SMALL, "site": about.site}}]
+        entries += [{"made": {"seat": 1 + count % 20, "operation": put(count, Shape(
+            "block", count % 90, count % 90 + 19, count, count + 60, 1), about).written(), "key": f"key {count}", "shared": True}}
+            for count in range(1, size + 1)]
         self.path.write_bytes(b"".join(map(line_of, entries)))
         with takes_at_most(size / 10_000):
-            state, _, _ = Keeper(self.path.parent, "", Settings())._read(Entries(self.path))
+            state, _ = Keeper(self.path.parent, "", Settings())._read(Entries(self.path))
             self.assertEqual(len(state.shared.road.layers), size)
 
     def test_only_one_server_locks_a_folder(self) -> None:
@@ -320,9 +324,9 @@ class Writing(unittest.IsolatedAsyncioTestCase):
 
 def seen(state: State) -> Any:
     """Return a state in a form that can be compared."""
-    return (state.plan, state.site, state.folder, state.rate, state.now, state.stop, state.bound, state.shares,
+    return (state.plan, state.site, state.rate, state.now, state.stop, state.shares,
             sorted(one.stamp for one in state.unsent),
-            [(seat.name, seat.key, seat.count, seat.upto, dict(seat.done), seat.used * bool(seat.key),
+            [(seat.name, seat.key, seat.upto, dict(seat.done), seat.used * bool(seat.key),
               sorted(one.text() for one in state.replica(seat.index).places)) for seat in state.seats])
 
 
@@ -330,7 +334,7 @@ class Folders(Case):
     """Test servers on folders after kills, cuts and full disks."""
 
     async def shared(self, seat: Seat, number: int) -> None:
-        await seat.ask("gesture", key=f"g{number}", edits=[["limit", number % 6, 10 + number, number % 5]])
+        await seat.ask("gesture", key=f"g{number}", shape=["limit", number % 6, number % 6, 10 + number, None, number % 5])
 
     async def test_a_server_starts_from_each_of_twenty_cuts(self) -> None:
         """A server starts from each cut journal, and has all complete lines."""
@@ -351,7 +355,7 @@ class Folders(Case):
                 held: Any = (await seat.ask("operations"))["operations"]
                 self.assertEqual([one["stamp"][0] for one in held], list(range(1, 1 + sum(cut >= end for end in ends))))
                 await self.shared(seat, 9)
-                await seat.ask("undo", stamp=[len(held) + 1, 65], key="u")
+                await seat.ask("undo", stamp="g9", key="u")
             server.kill()
 
     async def test_a_broken_line_keeps_a_server_from_starting_and_is_named(self) -> None:
@@ -401,7 +405,7 @@ class Folders(Case):
             resource.setrlimit(resource.RLIMIT_FSIZE, old)
         async with server.seat(key=seat.key) as seat:
             self.assertEqual(len((await seat.ask("scenario"))["edits"]), 1)
-            said = await seat.reply("gesture", at=seat.at, key="x", edits=[["limit", 2, 50, 1]])
+            said = await seat.reply("gesture", at=seat.at, key="x", shape=["limit", 2, 2, 50, None, 1])
             self.assertEqual(said["refused"], "NotWritten")
 
     async def test_a_plan_that_is_refused_leaves_a_folder_that_can_be_used(self) -> None:
@@ -458,14 +462,14 @@ class Folders(Case):
         server.start()
         async with server.seat(key=ada.key) as ada:
             self.assertEqual(numbers((await ada.ask("scenario"))["edits"]), numbers(scenario["edits"]))
-            said = await ada.reply("gesture", at=ada.at, key="x", edits=[["limit", 2, 50, 1]])
+            said = await ada.reply("gesture", at=ada.at, key="x", shape=["limit", 2, 2, 50, None, 1])
             self.assertEqual(said["refused"], "NotWritten")
             self.assertIn("Read-only file system", said["why"])
             trouble = ada.welcome["trouble"] or next(one["trouble"] for one in reversed(ada.received) if "trouble" in one)
             self.assertIn("Read-only file system", str(trouble))
             async with server.seat("Ben") as ben:  # somebody who joins now can look, too
                 self.assertEqual((await ben.ask("scenario"))["edits"], [])
-                said = await ben.reply("gesture", at=ben.at, key="x", edits=[["limit", 2, 50, 1]])
+                said = await ben.reply("gesture", at=ben.at, key="x", shape=["limit", 2, 2, 50, None, 1])
                 self.assertEqual(said["refused"], "NotWritten")
             self.assertEqual({path: path.read_bytes() for path in before}, before)
             switch.touch()
@@ -492,7 +496,7 @@ class Folders(Case):
             before = await ada.ask("diagram", **{"from": 0, "to": 60}), await ada.ask("scenario")
             resource.prlimit(server.process.pid, resource.RLIMIT_FSIZE, (size + 30, resource.RLIM_INFINITY))
             said = await asyncio.gather(*(seat.reply("gesture", at=seat.at, key=f"full {step}",
-                                                     edits=[["block", 60, step, 1], ["limit", 0, step, 0]])
+                                                     shape=["block", 60, 60, step, None, 1])
                                           for step in range(10, 13) for seat in (ada, ben)))
             self.assertEqual({one.get("refused") for one in said}, {"NotWritten"})
             self.assertTrue(all("was not saved, so it was not made" in one["why"] for one in said))
@@ -501,7 +505,7 @@ class Folders(Case):
             self.assertEqual([one.get("rows") or one["edits"] for one in before], [one.get("rows") or one["edits"] for one in after])
             self.assertEqual((await ben.ask("scenario"))["edits"], [])
             resource.prlimit(server.process.pid, resource.RLIMIT_FSIZE, (resource.RLIM_INFINITY, resource.RLIM_INFINITY))
-            self.assertEqual((await ada.ask("gesture", key="full 10", edits=[["block", 60, 10, 1]]))["stamp"], [2, 65])
+            self.assertEqual((await ada.ask("gesture", key="full 10", shape=["block", 60, 60, 10, None, 1]))["touched"], 10)
             await ada.reply("ping")  # pushed messages come after the reply
             troubles = [one["trouble"] for one in ada.received if "trouble" in one]
             self.assertEqual([bool(one) for one in troubles][-2:], [True, False])
@@ -530,13 +534,13 @@ class Folders(Case):
             await running.until(is_shortened, "it is shortened")
             await self.shared(ben, 77)
             held = [await seat.ask("scenario", at=at) for seat, at in ((ada, ada.at), (ben, ben.at), (ada, "shared"))]
-            again = await ada.ask("gesture", key="g0", edits=[["limit", 0, 1, 1]])
-            self.assertEqual((again["stamp"], again["again"]), ([1, 65], True))
+            again = await ada.ask("gesture", key="g0", shape=["limit", 0, 0, 1, None, 1])
+            self.assertEqual((again["stamp"][0], again["again"]), (1, True))
         server.restart()
         async with server.seat(key=ada.key) as ada, server.seat(key=ben.key) as ben:
             now = [await seat.ask("scenario", at=at) for seat, at in ((ada, ada.at), (ben, ben.at), (ada, "shared"))]
             self.assertEqual([numbers(one["edits"]) for one in held], [numbers(one["edits"]) for one in now])
-            self.assertEqual((await ada.ask("gesture", key="g0", edits=[["limit", 0, 1, 1]]))["stamp"], [1, 65])
+            self.assertEqual((await ada.ask("gesture", key="g0", shape=["limit", 0, 0, 1, None, 1]))["stamp"], again["stamp"])
 
     async def test_a_journal_is_shortened_under_steady_work_and_the_clock_survives_a_kill(self) -> None:
         """Three robots have four changes each on their way, without a pause."""
@@ -596,17 +600,17 @@ class Folders(Case):
         server = self.server()
         path, aside = server.folder / "journal.jsonl", server.folder / "aside"
 
-        async def put(seat: Seat, step: int) -> Any:
+        async def place(seat: Seat, step: int) -> Any:
             return await seat.reply("gesture", at=seat.at, key=f"k{step}", shape=["limit", 2, 2, step, None, 1])
         async with server.seat() as ada:
-            await put(ada, 50)
+            await place(ada, 50)
             path.rename(aside)
-            said = await put(ada, 40)
+            said = await place(ada, 40)
             self.assertEqual(said["refused"], "NotWritten")
             self.assertIn("was moved or replaced while the server was running: put it back", said["why"])
             self.assertEqual(len((await ada.ask("layers"))["layers"]), 1)
             aside.rename(path)
-            self.assertNotIn("refused", await put(ada, 30))
+            self.assertNotIn("refused", await place(ada, 30))
         server.restart()
         async with server.seat(key=ada.key) as ada:
             shapes: list[Any] = [line["shape"] for line in (await ada.ask("layers"))["layers"]]
@@ -618,9 +622,10 @@ class Folders(Case):
             for number in range(6):
                 await self.shared(ada, number)
                 await self.shared(ben, number + 1)
-            await ada.ask("send", name="shared", stamps=[[1, 65], [3, 65]])
+            made = [one["stamp"] for one in (await ada.ask("operations"))["operations"]]
+            await ada.ask("send", name="shared", stamps=[made[0], made[2]])
             await ben.ask("take", message="shared")
-            await ben.ask("undo", stamp=[1, 65], key="u")
+            await ben.ask("undo", stamp=made[0], key="u")
             await ben.ask("send", name="shared")
             await ada.say("clock", rate=70)
             async with server.seat("Cleo") as cleo:  # she leaves before what she shared has come back
@@ -629,9 +634,161 @@ class Folders(Case):
                 await cleo.reply("leave", at=cleo.at)
         server.kill()
         first, second = State(), State()
-        for entry in [*server.journal(), {"bound": {"site": 7, "folder": "of site 7"}}]:
+        for entry in server.journal():
             first.read(entry)
-        for entry in json.loads(json.dumps([one.written() for one in first.entries()])):
+        for entry in json.loads(json.dumps([write_entry(one, first.site) for one in first.entries()])):
             second.read(entry)
-        self.assertEqual(len(first.unsent), 9)  # one of Ben is of a place where Ada has shared a later one
+        self.assertEqual(len(first.unsent), 10)  # two of Ada's, six of Ben's and his undo, one of Cleo's
         self.assertEqual(seen(first), seen(second))
+
+
+class Names(Case):
+    """Names of sites, and counts."""
+
+    def setUp(self) -> None:
+        self.enterContext(mock.patch.dict(os.environ, LIVE_MILLISECONDS="0"))
+
+    async def counts(self, here: Here, *made: int) -> list[int]:
+        """Make a change at each of these seats. Return their counts."""
+        return [(await here.ask(seat, "gesture", key=os.urandom(8).hex(), shape=["limit", 2, 2, 50 + number, None, 1]))["stamp"][0]
+                for number, seat in enumerate(made)]
+
+    async def test_a_folder_has_one_site_for_ever(self) -> None:
+        folder = running.new_folder()
+        async with Here(folder, site="north") as here:
+            site = here.lab.state.site
+            self.assertRegex(site, r"^north-[0-9a-f]{8}$")
+        for said in (None, "north"):
+            async with Here(folder, site=said) as here:
+                self.assertEqual(here.lab.state.site, site)
+        for other in ("nort", "south", site):
+            with self.assertRaisesRegex(CannotStart, f"belongs to site {site} for ever"):
+                await self.enterAsyncContext(Here(folder, site=other))
+        async with Here(site="north") as other_folder:
+            self.assertNotEqual(other_folder.lab.state.site, site)
+        self.assertTrue(can_be_said("x" * 31))
+        for bad in ("", "x" * 32, "a_b", "a b", "\u00e9", 'a"'):
+            self.assertFalse(can_be_said(bad))
+
+    def test_a_site_is_called_after_its_host(self) -> None:
+        for host, name in (("tower.example.org", "tower.example.org"), ("my_host/1", "my-host-1"), ("x" * 40, "x" * 31), ("", "site")):
+            with mock.patch("server.journal.naming.socket.gethostname", lambda: host):
+                self.assertEqual(new_site(None)[:-9], name)
+                self.assertRegex(new_site(None), SITE)
+
+    async def test_the_journal_leaves_out_the_folders_own_site(self) -> None:
+        """It writes all others."""
+        async with Here(site="north") as here:
+            await here.join("Ada")
+            await here.ask(1, "gesture", key="a", shape=["limit", 2, 2, 50, None, 1])
+            await here.lab.receive([put(7, Shape("limit", 1, 1, 5, None, 3), About("Sam", site="south-00000002"))], "", {})
+            self.assertEqual(["site" in entry["made"]["operation"] for entry in here.entries() if "made" in entry], [False])
+            for _ in range(2):
+                self.assertEqual([one["site"] for entry in here.entries() if "came" in entry for one in entry["came"]["operations"]],
+                                 ["south-00000002"])
+                await here.keeper.compact()
+            sites = {one.stamp: one.site for one in here.lab.state.by_stamp.values()}
+            self.assertEqual(sorted(sites.values()), [here.lab.state.site, "south-00000002"])
+        async with Here(here.folder) as again:
+            self.assertEqual({one.stamp: one.site for one in again.lab.state.by_stamp.values()}, sites)
+
+    async def test_an_operation_under_anothers_name_is_kept_aside(self) -> None:
+        async with Here() as here:
+            await here.join("Ada")
+            await self.counts(here, 1, 1)
+        path = here.folder / "journal.jsonl"
+        entries = here.entries()
+        entries[-1]["made"]["operation"]["shape"][5] = 2
+        path.write_bytes(b"".join(map(line_of, entries)))
+        async with Here(here.folder) as again:
+            aside, = again.lab.state.unreadable
+            self.assertIn("the hash of its text is", aside.why)
+            self.assertEqual(len(again.lab.state.seats[1].road.layers), 1)
+
+    async def test_a_count_is_above_all_that_the_server_holds(self) -> None:
+        """Private ones of other seats are among them."""
+        async with Here() as here:
+            await here.join("Ada", "Ben", "Cleo")
+            self.assertEqual(await self.counts(here, 1, 1, 1, 2, 3, 1), [1, 2, 3, 4, 5, 6])
+            await here.lab.receive([put(90, Shape("limit", 1, 1, 5, None, 3), About("Sam", site="south-00000002"))], "", {})
+            self.assertEqual(await self.counts(here, 2), [91])
+        async with Here(here.folder) as again:
+            self.assertEqual(await self.counts(again, 3), [92])
+
+    async def test_a_count_never_sinks_when_changes_are_forgotten(self) -> None:
+        """Nor after a failed write, whose count nobody has seen."""
+        async with Here() as here:
+            await here.join("Ada")
+            for number in range(25):
+                await here.ask(1, "gesture", key=f"p{number}", shape=["limit", 2, 2, 50, None, 1])
+                await here.ask(1, "undo", key=f"u{number}", stamp=f"p{number}")
+            with mock.patch("server.journal.keeper.MOST_UNDOABLE", 0):
+                here.keeper._forget()
+            self.assertEqual(len(here.lab.state.by_stamp), 0)
+            self.assertEqual(await self.counts(here, 1), [51])
+            with Disk(here.folder) as disk:
+                disk.is_full()
+                with self.assertRaisesRegex(Refused, "NotWritten"):
+                    await self.counts(here, 1)
+                self.assertEqual([*here.lab.state.by_stamp], [*here.lab.state.seats[1].road.record.held])
+                disk.is_full(False)
+                await here.keeper.wait_until_writable()
+                self.assertEqual(await self.counts(here, 1), [53])
+
+    def test_a_count_follows_the_clock_and_never_goes_back_with_it(self) -> None:
+        now = [1_000]
+        with mock.patch("server.journal.naming.time.time_ns", lambda: now[0] * 1_000_000):
+            counter = Counter()
+            for clock, held, heard, count in ((1_000, 0, 0, 32_000), (1_000, 32_000, 0, 32_001), (1_002, 32_001, 0, 32_064),
+                                              (10, 32_064, 0, 32_065), (2_000, 0, 99_000, 99_001), (2_000, 0, (1 << 50) + 1, 99_001),
+                                              (2_000, 0, 1 << 50, (1 << 50) + 1), (1 << 50, 0, 0, (1 << 50) + 1)):
+                now[0] = clock
+                counter.hold(held)
+                counter.hear(heard)
+                self.assertEqual(counter.next(), count, (clock, held, heard))
+            now[0] = 1 << 50
+            self.assertEqual(Counter().next(), 1 << 50)  # a clock counts as this at most
+
+    def test_changes_of_sites_that_were_apart_lie_in_the_order_of_their_clocks(self) -> None:
+        """A week passes, and neither hears the other. Then one has its clock three days ahead for one change, and the other takes it."""
+        now, day = [1_760_000_000_000], 86_400_000
+        with mock.patch("server.journal.naming.time.time_ns", lambda: now[0] * 1_000_000):
+            north, south = Counter(), Counter()
+
+            def make(counter: Counter) -> int:
+                counter.hold(count := counter.next())
+                return count
+            made = [make(north) for _ in range(100)]
+            for counter in (south, north, south):
+                now[0] += 7 * day
+                made += [make(counter) for _ in range(100)]
+            self.assertEqual(made, sorted({*made}))
+            now[0] += 3 * day
+            ahead = make(north)
+            now[0] -= 3 * day
+            self.assertEqual(make(north), ahead + 1)
+            self.assertLess(make(south), ahead)
+            south.hold(ahead)
+            self.assertEqual(make(south), ahead + 1)
+
+    def test_how_far_counts_are_ahead_of_the_clock(self) -> None:
+        with mock.patch("server.journal.naming.time.time_ns", lambda: 5_000_000_000):
+            counter = Counter()
+            counter.hold(32 * 65_000)
+            self.assertEqual(counter.milliseconds_ahead(), 60_000)
+
+    def test_far_counts_are_those_that_are_far_above_the_shared_road(self) -> None:
+        far, step = 1 << 50, 1 << 24
+        for count, greatest, wanted in ((far, 0, False), (far + step, 0, False), (far + step + 1, 0, True), (far + step, far, False),
+                                        (far + step + 1, far, True), (far + step + 1, far + 1, False), (far + step + 2, far + 1, True)):
+            self.assertEqual(is_far(count, greatest), wanted, (count - far, greatest - far))
+
+    def test_what_is_made_after_any_announcement_is_taken_by_others(self) -> None:
+        """The next operations of a site that hears an announcement, whatever it says, are not far for a site that does not hear it."""
+        counter = Counter()
+        for heard in ((1 << 50) - 1, 1 << 50, (1 << 50) + 1, (1 << 53) - 1):
+            counter.hear(heard)
+            for _ in range(100):
+                counter.hold(counter.next())
+        self.assertGreater(counter.greatest, 1 << 50)
+        self.assertFalse(is_far(counter.greatest, 0))

@@ -12,7 +12,10 @@ import {Words, affectedBy, historyOf, listChanges} from "../page/listing.mjs";
 import {store} from "../page/store.mjs";
 
 const PLAN = JSON.parse(readFileSync(new URL("../plan.json", import.meta.url), "utf8"));
-const [ADA, BEN] = [65, 66];  // seats, which are also the second parts of the stamps here
+const [ADA, BEN] = [1, 2];    // seats
+
+/** Return the stamp of an operation of a seat; here the hash says which one. */
+const stamp = (count, seat) => [count, `of ${seat}`];
 
 /** Return a line with one put, which is shared unless `more` says otherwise; `parts` are [from, to, by]. */
 function line(name, who, shape, parts, more = {}) {
@@ -25,22 +28,24 @@ function line(name, who, shape, parts, more = {}) {
 
 const AS = ["limit", 4, 5, 1200, 2400, 2];
 const BS = ["limit", 4, 5, 1500, 1800, 3];
-const ada = (parts, more) => line([1, ADA], "Ada", AS, parts, more);
-const ben = (parts, more) => line([2, BEN], "Ben", BS, parts, more);
+const ada = (parts, more) => line(stamp(1, ADA), "Ada", AS, parts, more);
+const ben = (parts, more) => line(stamp(2, BEN), "Ben", BS, parts, more);
 
-const nameOf = (count, number) => ({count, number});
+const nameOf = (count, seat) => ({count, hash: `of ${seat}`});
+
+const seatOf = ([, hash]) => Number(hash.slice(3));
 
 /** Return a line that says which seats made it and its operations. */
-const withSeats = (one) => ({...one, seat: one.name[1],
-  operations: one.operations.map((done) => ({...done, seat: done.stamp[1]}))});
+const withSeats = (one) => ({...one, seat: seatOf(one.name),
+  operations: one.operations.map((done) => ({...done, seat: seatOf(done.stamp)}))});
 
 function road(...lines) {
   const layers = new Layers(PLAN);
-  layers.update(decodeList({layers: lines.map(withSeats), next: 7, undo: [2, BEN], redo: null}));
+  layers.update(decodeList({layers: lines.map(withSeats), next: 7, undo: stamp(2, BEN), redo: null}));
   return layers;
 }
 
-const COVERED = [[1200, 1500, null], [1500, 1800, [2, BEN]], [1800, 2400, null]];
+const COVERED = [[1200, 1500, null], [1500, 1800, stamp(2, BEN)], [1800, 2400, null]];
 
 test("what is in force has frames and values; what is covered has none", () => {
   const layers = road(ada(COVERED), ben([[1500, 1800, null]]));
@@ -67,8 +72,8 @@ test("a line replaces the one with its name, and a line that is gone leaves the 
   layers.update(decodeList({layers: [ada(COVERED), ben([[1500, 1800, null]])], next: 9, undo: null,
                           redo: null}));
   assert.deepEqual([layers.next, layers.undo, layers.changes.size], [9, null, 2]);
-  layers.update(decodeList({layers: [{name: [2, BEN], gone: true}], next: 10}));
-  assert.deepEqual([...layers.changes.keys()], ["1,65"]);
+  layers.update(decodeList({layers: [{name: stamp(2, BEN), gone: true}], next: 10}));
+  assert.deepEqual([...layers.changes.keys()], ["1.of 1"]);
   const other = layers.with([decodeChange(ben([[1500, 1800, null]]))]);
   assert.equal(other.changes.size, 2);
   assert.equal(layers.changes.size, 1);
@@ -79,44 +84,32 @@ test("parts that do not fit this road are left out, whatever they are", () => {
                  ["speed", 0, 0, 0, 60, 2, null], ["limit", -1, 2, 0, 60, 2, null],
                  ["limit", 5, 4, 0, 60, 2, null], ["limit", 4, 5, 60, 60, 2, null],
                  ["limit", 4, 5, 0, 60, "2", null], ["inflow", 2, 2, 0, null, 9, null], "limit", null];
-  const layers = road({...ada([]), shape: ["watch", 9, 9, 0, null, 1], shown: parts,
-                       edits: [["block", 800, 0, 1], ["block", 799, 0, 1]]});
+  const layers = road({...ada([]), shape: ["watch", 9, 9, 0, null, 1], shown: parts});
   const found = layers.find(nameOf(1, ADA));
   const limit = {kind: "limit", first: 4, last: 5, from: 0, to: 60, value: 2, by: null};
   assert.deepEqual(found.shown, [limit]);
-  assert.ok(found.isRaw);
-  assert.deepEqual(found.edits, [{kind: "block", index: 799, step: 0, value: 1}]);
+  assert.equal(found.shape, null);
   assert.equal(layers.frames.length, 1);
   assert.deepEqual(road({...ada([]), shown: "all"}).frames, []);
 });
 
 test("an excluded site has a line, and nothing is drawn for it", () => {
-  const out = {...ada([]), kind: "site", shape: ["site", 3, 3, 0, null, 1],
-               shown: [["site", 3, 3, 0, null, 1, null]], isRaw: false};
-  const layers = road(out);
-  assert.deepEqual([layers.frames, layers.find(nameOf(1, ADA)).site], [[], 3]);
-  assert.equal(new Words(layers, ADA).text(layers.find(nameOf(1, ADA))), "Site 3 is excluded");
+  const layers = road({...ada([]), kind: "site", shape: null, site: "south-00000000", shown: []});
+  assert.deepEqual([layers.frames, layers.find(nameOf(1, ADA)).site], [[], "south-00000000"]);
+  assert.equal(new Words(layers, ADA).text(layers.find(nameOf(1, ADA))), "Site south-00000000 is excluded");
 });
 
-test("raw edits that form one rectangle have its shape, so that they can be changed", () => {
-  const of = (...shown) => road({...ada([]), shape: null, note: "", shown,
-                                 edits: [["block", 100, 600, 1]]}).find(nameOf(1, ADA));
-  const closure = ["block", 100, 101, 600, 700, 1];
-  const [one, two] = [of([...closure, null], ["block", 100, 101, 700, null, 0, null]),
-                      of([...closure, null], ["block", 100, 100, 800, null, 1, null])];
-  const put = {kind: "block", first: 100, last: 101, from: 600, to: 700, value: 1};
-  assert.deepEqual([one.shape, one.isRaw], [put, true]);
-  assert.equal(two.shape, null);
-  assert.equal(new Words(road(), ADA).text(one),
-               "Closed 0.75\u20130.765 km, 0:10:00\u20130:11:40");
-  assert.equal(new Words(road(), ADA).text(two), "Closed 0.75\u20130.758 km, from "
-    + "0:10:00 on");
-});
-
-test("a raw edit that sets the plan's value has no frame, and a shape that does has one", () => {
-  const edit = line([3, ADA], "Cron", ["limit", 4, 4, 0, null, 5], [[0, null, null]]);
-  assert.deepEqual(road({...edit, shape: null, edits: [["limit", 4, 0, 5]]}).frames, []);
-  assert.equal(road(edit).frames.length, 1);
+test("a capacity sets a limit and two chances, and a change may cover each of them", () => {
+  const capacity = line(stamp(1, ADA), "Ada", ["capacity", 4, 5, 0, null, [900, 2, 9000, 20000]], []);
+  capacity.shown = [["limit", 4, 5, 0, null, 2, stamp(2, BEN)], ["slow", 4, 5, 0, null, 9000, null],
+                    ["start", 4, 5, 0, null, 20000, null]];
+  const layers = road(capacity, line(stamp(2, BEN), "Ben", ["limit", 4, 5, 0, null, 3], [[0, null, null]]));
+  assert.deepEqual(["limit", "slow", "start"].map((kind) => layers.valueAt(kind, 4, 60)), [3, 9000, 20000]);
+  const found = layers.find(nameOf(1, ADA));
+  assert.deepEqual([found.shape.value, found.shape.measured], [900, [2, 9000, 20000]]);
+  const words = new Words(layers, ADA);
+  assert.equal(words.text(found), "Capacity 900 cars/h, 1.5\u20132.25 km, from 0:00:00 on");
+  assert.match(words.cover(found), /[Cc]overed from 0:00:00 on by Ben's limit of 81 km\/h/);
 });
 
 test("a line says where it is in force, and what covers it", () => {
@@ -129,14 +122,14 @@ test("a line says where it is in force, and what covers it", () => {
 });
 
 test("a line that is wholly covered says so", () => {
-  const over = line([3, BEN], "Ben", ["limit", 0, 15, 0, null, 1], [[0, null, null]]);
-  const layers = road(ada([[1200, 2400, [3, BEN]]]), over);
+  const over = line(stamp(3, BEN), "Ben", ["limit", 0, 15, 0, null, 1], [[0, null, null]]);
+  const layers = road(ada([[1200, 2400, stamp(3, BEN)]]), over);
   assert.equal(new Words(layers, ADA).cover(layers.find(nameOf(1, ADA))),
                "Wholly covered by Ben's limit of 27 km/h.");
 });
 
 test("places are named if the parts of a line are at different places", () => {
-  const shown = [["limit", 4, 4, 1200, 2400, 2, null], ["limit", 5, 5, 1200, 2400, 2, [2, BEN]]];
+  const shown = [["limit", 4, 4, 1200, 2400, 2, null], ["limit", 5, 5, 1200, 2400, 2, stamp(2, BEN)]];
   const layers = road({...ada([]), shown}, ben([[1500, 1800, null]]));
   assert.equal(new Words(layers, ADA).cover(layers.find(nameOf(1, ADA))),
     "In force 1.5\u20131.875 km, 0:20:00\u20130:40:00; covered 1.875\u20132.25 km, "
@@ -145,13 +138,13 @@ test("places are named if the parts of a line are at different places", () => {
 
 test("of many parts only four are listed", () => {
   const parts = Array.from({length: 9}, (_, turn) =>
-    [1200 + 60 * turn, 1260 + 60 * turn, turn % 2 ? [2, BEN] : null]);
+    [1200 + 60 * turn, 1260 + 60 * turn, turn % 2 ? stamp(2, BEN) : null]);
   const layers = road(ada(parts), ben([[1500, 1800, null]]));
   assert.match(new Words(layers, ADA).cover(layers.find(nameOf(1, ADA))), /; and 5 more\.$/);
 });
 
 test("the lists have changes in force and unshared withdrawals, newest first", () => {
-  const change = {stamp: [5, ADA], who: "Ada", note: "changed", when: 0, does: "change",
+  const change = {stamp: stamp(5, ADA), who: "Ada", note: "changed", when: 0, does: "change",
                   shared: false, lost: null};
   const mine = ada([[1200, 2400, null]]);
   mine.operations.push(change);
@@ -162,17 +155,17 @@ test("the lists have changes in force and unshared withdrawals, newest first", (
      ["81 km/h, 1.5\u20132.25 km, 0:25:00\u20130:30:00", "shared", "held"]]);
   assert.deepEqual(privateOf(mine), [change]);
   assert.deepEqual(listChanges(road(withdrawn), ADA), []);
-  withdrawn.operations.push({stamp: [6, ADA], who: "Ada", note: "Withdrew: it", when: 0,
+  withdrawn.operations.push({stamp: stamp(6, ADA), who: "Ada", note: "Withdrew: it", when: 0,
                              does: "withdraw", shared: false, lost: null});
   assert.deepEqual(listChanges(road(withdrawn), ADA).map(({text, where}) => [text, where]),
                    [["Withdrew: it", "own"]]);
 });
 
 test("a car in two closures is reported once, with the time when the road opens", () => {
-  const lower = line([1, ADA], "Ada", ["block", 10, 19, 1200, 2400, 1], []);
-  const upper = line([2, BEN], "Ben", ["block", 15, 24, 1800, null, 1], [[1800, null, null]]);
+  const lower = line(stamp(1, ADA), "Ada", ["block", 10, 19, 1200, 2400, 1], []);
+  const upper = line(stamp(2, BEN), "Ben", ["block", 15, 24, 1800, null, 1], [[1800, null, null]]);
   lower.shown = [["block", 10, 14, 1200, 2400, 1, null], ["block", 15, 19, 1200, 1800, 1, null],
-                 ["block", 15, 19, 1800, 2400, 1, [2, BEN]]];
+                 ["block", 15, 19, 1800, 2400, 1, stamp(2, BEN)]];
   const layers = road(lower, upper);
   const row = `${".".repeat(8)}0###0#####0####`.padEnd(PLAN.length, ".");    // 8, 12 and 18
   assert.deepEqual(layers.frames.map((frame) => [frame.first, frame.to,
@@ -181,20 +174,20 @@ test("a car in two closures is reported once, with the time when the road opens"
 });
 
 test("a line says who made it, and who else has changed it since", () => {
-  const raised = {stamp: [5, BEN], who: "Ben", note: "", when: 0, does: "top", shared: true,
+  const raised = {stamp: stamp(5, BEN), who: "Ben", note: "", when: 0, does: "top", shared: true,
                   lost: null};
   const mine = ada([[1200, 2400, null]]);
   const metas = () => [ADA, BEN].map((number) => listChanges(road(mine), number)[0].meta);
   assert.deepEqual(metas(), ["you", "Ada"]);
   mine.operations.push(raised);
   assert.deepEqual(metas(), ["you; put on top by Ben", "Ada; put on top by you"]);
-  mine.operations.push({...raised, stamp: [6, ADA], who: "Ada", does: "change"});
+  mine.operations.push({...raised, stamp: stamp(6, ADA), who: "Ada", does: "change"});
   assert.deepEqual(metas(), ["you", "Ada"]);
 });
 
 test("the list names who undid or redid a change, each with its own word", () => {
-  const done = {stamp: [5, BEN], who: "Ben", note: "", when: 0, shared: true, lost: null,
-                undoes: [1, ADA]};
+  const done = {stamp: stamp(5, BEN), who: "Ben", note: "", when: 0, shared: true, lost: null,
+                undoes: stamp(1, ADA)};
   const metas = (does) => [ADA, BEN].map((number) => listChanges(road(ada(
     [[1200, 2400, null]], {operations: [ada([]).operations[0], {...done, does}]})), number)[0].meta);
   assert.deepEqual(metas("undo"), ["you; undone by Ben", "Ada; undone by you"]);
@@ -209,19 +202,10 @@ test("an operation has the same time at all seats", () => {
   assert.match(own, /\d:\d\d/);
 });
 
-test("raw edits that a shape has replaced have one line, that of the shape", () => {
-  const edits = {...ada([]), standing: false, shape: null};
-  const done = {stamp: [9, ADA], who: "Ada", note: "", when: 0, does: "put", shared: false,
-                lost: null};
-  edits.operations = [...edits.operations, {...done, does: "edits"}];
-  const shape = {...ada([[1200, 2400, null]]), name: [9, ADA], operations: [done]};
-  assert.deepEqual(listChanges(road(edits, shape), ADA).map(({change: {name}}) => name), [nameOf(9, ADA)]);
-});
-
 test("the history lists all operations, withdrawals too", () => {
   const withdrawn = {...ben([]), standing: false, shape: null, note: "81 km/h"};
   withdrawn.operations = [...withdrawn.operations,
-    {stamp: [6, ADA], who: "Ada", note: "Withdrew: 81 km/h", when: 0, does: "withdraw",
+    {stamp: stamp(6, ADA), who: "Ada", note: "Withdrew: 81 km/h", when: 0, does: "withdraw",
      shared: true, lost: null}];
   const layers = road(ada(COVERED), withdrawn);
   assert.deepEqual(historyOf(layers, ADA).map(({text, meta}) => [text, meta]),
@@ -232,14 +216,14 @@ test("the history lists all operations, withdrawals too", () => {
 test("the list names who won at the same time, until the change is put again", () => {
   const mine = ben([]);
   mine.operations = [...mine.operations,
-    {stamp: [5, BEN], who: "Ben", note: "", when: 0, does: "change", shared: true, lost: [5, 67]},
-    {stamp: [5, 67], who: "Cleo", note: "", when: 0, does: "withdraw", shared: true, lost: null}];
+    {stamp: stamp(5, BEN), who: "Ben", note: "", when: 0, does: "change", shared: true, lost: stamp(5, 3)},
+    {stamp: stamp(5, 3), who: "Cleo", note: "", when: 0, does: "withdraw", shared: true, lost: null}];
   Object.assign(mine, {standing: false, shape: null});
   const [one] = listChanges(road(mine), BEN);
   assert.equal(one.lost, "Cleo withdrew it at the same time, and that takes precedence.");
   assert.deepEqual(lostOf(decodeChange(withSeats(mine)), BEN).mine.stamp, nameOf(5, BEN));
   assert.equal(lostOf(decodeChange(withSeats(mine)), ADA), null);
-  mine.operations.push({stamp: [6, BEN], who: "Ben", note: "", when: 0, does: "put", shared: true,
+  mine.operations.push({stamp: stamp(6, BEN), who: "Ben", note: "", when: 0, does: "put", shared: true,
                         lost: null});
   assert.equal(lostOf(decodeChange(withSeats(mine)), BEN), null);
 });
@@ -253,14 +237,14 @@ test("a preview says what would be covered, and what would be in force again", (
     ["you: 54 km/h, 1.5\u20132.25 km, 0:20:00\u20130:40:00 \u2013 then: in force "
      + "0:20:00\u20130:25:00; covered 0:25:00\u20130:30:00 by Ben's limit of 81 km/h; in force "
      + "0:30:00\u20130:40:00."]);
-  const effect = (line) => said.effect(road(line).find(nameOf(...line.name)));
+  const effect = (line) => said.effect(road(line).find(nameOf(line.name[0], seatOf(line.name))));
   assert.match(effect(ada([[1200, 2400, null]])), /then: fully in force\.$/);
   assert.match(effect({...ada([]), standing: false}), /then: withdrawn by you\.$/);
   assert.deepEqual(affectedBy([{...ada([]), shown: was, was}]), []);
 });
 
 test("changes to share and changes to take are listed newest first", () => {
-  const made = [3, 1, 2].map((count) => line([count, BEN], "Ben", BS, [[1500, 1800, null]]));
+  const made = [3, 1, 2].map((count) => line(stamp(count, BEN), "Ben", BS, [[1500, 1800, null]]));
   const own = made.map((one) => ({...one, operations: [{...one.operations[0], shared: false}]}));
   const [mine, shared] = [road(...own), road(...made)];
   const counts = (lines) => lines.map(({name}) => name.count);
@@ -272,8 +256,8 @@ test("changes to share and changes to take are listed newest first", () => {
 
 test("a change that would have no effect when taken is described as it was, with who won", () => {
   const [put] = ada([]).operations;
-  const theirs = {...put, stamp: [5, BEN], who: "Ben", does: "change", lost: [6, ADA], shape: BS};
-  const mine = {...put, stamp: [6, ADA], does: "change", shared: false};
+  const theirs = {...put, stamp: stamp(5, BEN), who: "Ben", does: "change", lost: stamp(6, ADA), shape: BS};
+  const mine = {...put, stamp: stamp(6, ADA), does: "change", shared: false};
   const layers = road(ada(COVERED, {operations: [put, theirs, mine]}));
   const then = layers.find(nameOf(1, ADA));
   const [, ben, own] = then.operations;

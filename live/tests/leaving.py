@@ -8,13 +8,12 @@ import random
 import secrets
 from typing import Any, Iterable
 
-from faulty import Bus, Here, Message, message_of
+from faulty import Bus, Here, Message, message_of, written
 from oracle import oracle_of
 from zegdrut import Edit, RoadLab
 from running import ALL, SMALL, Case
-from server.journal import stamps
 from server.tabs.refusals import Refused
-from server.model.operations import Operation, Shape, exclude, put
+from server.model.operations import About, Operation, Shape, exclude, put
 from server.model.projection import all_edits
 from server.roads.screen import rows_of
 from server.journal.state import State
@@ -47,8 +46,9 @@ class LeftOut(Case):
 
     async def asyncSetUp(self) -> None:
         self.bus = Bus()
-        self.here = [await self.enterAsyncContext(Here(site=number)) for number in (1, 2, 3)]
+        self.here = [await self.enterAsyncContext(Here(site=f"s{number}")) for number in (1, 2, 3)]
         self.sites = [self.bus.site(here) for here in self.here]
+        self.names = [here.lab.state.site for here in self.here]
         for here in self.here:
             await here.join(f"of site {here.site}")
             await here.lab.timing.set_clock(to=100)
@@ -86,15 +86,15 @@ class LeftOut(Case):
         await self.here[1].take(1)
         await self.everywhere(self.road(limit, *closure))
 
-        said = await self.here[1].ask(1, "site", key="out", site=3, out=True)
+        said = await self.here[1].ask(1, "site", key="out", site=self.names[2], out=True)
         self.assertEqual(await self.rows(self.here[1], "seat1"), self.road(limit))  # the exclusion is private at first
         await self.everywhere(self.road(limit, *closure))
         await self.share(1)
         await self.everywhere(self.road(limit))
 
         await self.shape(2, "block", 80, 80, 10, None, 1)  # what the excluded site sends from then on
-        stamp_of_3 = stamps.next_count(0, stamps.milliseconds(), 0), 3 * 64
-        await self.bus.give(self.sites[0], message_of(self.sites[0], put(stamp_of_3, Shape("block", 20, 20, 5, None, 1))))
+        other = put(stamp[0] + 1_000, Shape("block", 20, 20, 5, None, 1), About(site=self.names[2]))
+        await self.bus.give(self.sites[0], message_of(self.sites[0], other))
         await self.bus.rounds(4)
         await self.everywhere(self.road(limit))
         key, = self.here[1].keys.values()
@@ -119,7 +119,7 @@ class LeftOut(Case):
         """The seat took that site's changes, but has not yet taken the exclusion that is on the shared road."""
         await self.shape(2, "block", 52, 53, 30, 45, 1)
         await self.here[1].take(1)
-        await self.here[1].ask(1, "site", key="out", site=3, out=True)
+        await self.here[1].ask(1, "site", key="out", site=self.names[2], out=True)
         await self.share(1)
         self.assertEqual(set(by_shapes(self.here[1].lab.state.seats[1].places).values()), {0})
         self.starts_again(self.here[1], "left out")
@@ -167,11 +167,11 @@ class LeftOut(Case):
             shape = ["block", first, chance.randint(first, CELLS[-1]), begin, begin + chance.randint(1, 20), chance.randint(0, 1)]
             await here.ask(1, "gesture", key=key, note="", shape=shape)
         elif what < 0.6:
-            other = 1 + here.lab.state.site % 3
-            await here.ask(1, "site", key=key, site=chance.choice([other, 1 + other % 3]), out=chance.random() < 0.6)
+            others = [name for name in self.names if name != here.lab.state.site]
+            await here.ask(1, "site", key=key, site=chance.choice(others), out=chance.random() < 0.6)
         elif what < 0.75:
             made = [one.stamp for one in here.lab.state.seats[1].places]
-            await here.ask(1, "undo", key=key, note="", stamp=list(chance.choice(made or [(1, 1)])))
+            await here.ask(1, "undo", key=key, note="", stamp=list(chance.choice(made or [(1, "M47dx6_hno3g_1R9IF57TQ")])))
         elif what < 0.85:
             await here.take(1)
         else:
@@ -185,7 +185,7 @@ class LeftOut(Case):
     async def test_an_excluded_site_warns_its_users_and_goes_on_working(self) -> None:
         await self.shape(2, "block", 60, 60, 30, None, 1)
         await self.here[2].ask(1, "gesture", key="private", note="", shape=["limit", 1, 1, 20, None, 2])
-        await self.here[0].ask(1, "site", key="out", site=3, out=True)
+        await self.here[0].ask(1, "site", key="out", site=self.names[2], out=True)
         await self.share(0)
         await self.here[2].take(1)
         for at in ("seat1", "shared"):
@@ -195,40 +195,59 @@ class LeftOut(Case):
         with self.assertRaisesRegex(Refused, "SiteExcluded"):
             await self.here[2].ask(1, "gesture", key="more", note="", shape=["block", 70, 70, 30, None, 1])
         self.assertEqual((await self.here[2].share(1))["size"], 0)
-        await self.here[0].ask(1, "site", key="in", site=3, out=False)
+        await self.here[0].ask(1, "site", key="in", site=self.names[2], out=False)
         await self.share(0)
         await self.here[2].take(1)
         self.assertEqual((await self.here[2].share(1))["size"], 1)
         await self.share(2)
         await self.everywhere(self.road(("block", 60, 30, 1), ("limit", 1, 20, 2)))
 
-    async def test_an_excluded_site_cannot_include_anybody(self) -> None:
+    async def test_the_newest_exclusions_count_and_an_excluded_site_may_exclude(self) -> None:
+        """It is for mistakes: sites that exclude each other are not out for good, since the next to exclude one mends it."""
         await self.shape(2, "block", 60, 60, 30, None, 1)
-        await self.here[0].ask(1, "site", key="out", site=3, out=True)
-        await self.share(0)
-        for place, site, out in ((2, 1, True), (2, 2, True), (1, 3, True)):
-            await self.here[place].ask(1, "site", key=f"{site}", site=site, out=out)
-            await self.share(place)
         await self.shape(0, "limit", 1, 1, 20, None, 2)
-        await self.everywhere(self.road(("limit", 1, 20, 2)))
+        both = self.road(("limit", 1, 20, 2), ("block", 60, 30, 1))
+        for place, out, rows in ((0, 2, self.road(("limit", 1, 20, 2))), (2, 0, self.road(("block", 60, 30, 1))), (
+                1, 2, self.road(("limit", 1, 20, 2)))):
+            await self.here[place].ask(1, "site", key=f"out {out}", site=self.names[out], out=True)
+            await self.share(place)
+            await self.everywhere(rows)
+        self.assertEqual((await self.here[0].ask(1, "layers", at="shared"))["layers"][-1]["site"], self.names[0])
+        # Once the third site is in again, its own exclusion of the first counts, too: so that is included next.
+        for place, back, rows in ((0, 2, self.road(("block", 60, 30, 1))), (1, 0, both)):
+            await self.here[place].take(1)
+            await self.here[place].ask(1, "site", key=f"in {back}", site=self.names[back], out=False)
+            await self.share(place)
+            await self.everywhere(rows)
         with self.assertRaisesRegex(Refused, "OwnSite"):
-            await self.here[2].ask(1, "site", key="own", site=3, out=False)
-        for wrong in ([0, True], [3, 1], ["3", True], [1_024, True], [3]):
-            body = json.dumps({"form": 3, "operations": [{"stamp": [9, 70], "excludes": wrong}]}).encode()
-            await self.bus.give(self.sites[0], Message(f"road/{self.sites[0]._road}/operations", body))
-            self.assertNotIn((9, 70), self.here[0].lab.state.by_stamp)
+            await self.here[2].ask(1, "site", key="own", site=self.names[2], out=False)
 
-    async def test_all_sites_choose_the_same_one_of_two_twins(self) -> None:
-        """One twin excludes a site, and the other includes it. They arrive in either order."""
-        await self.shape(2, "block", 60, 60, 30, None, 1)
-        stamp = [stamps.next_count(0, stamps.milliseconds(), 0), 70 * 64 + 1]
-        twins = [message_of(self.sites[0], exclude((stamp[0], stamp[1]), 3, out)) for out in (True, False)]
-        for place, site in enumerate(self.sites):
-            for message in twins[::-1] if place else twins:
-                await self.bus.give(site, message)
+    async def test_older_exclusions_of_an_excluded_site_have_no_effect(self) -> None:
+        """Also if it says later that it made them first."""
+        await self.shape(0, "limit", 1, 1, 20, None, 2)
+        await self.here[1].ask(1, "site", key="out", site=self.names[2], out=True)
+        await self.share(1)
+        for count, name in enumerate(self.names[:2], 1):
+            one = exclude(count, name, True, About("Eve", site=self.names[2]))
+            await self.bus.give(self.sites[0], message_of(self.sites[0], one))
         await self.bus.rounds(3)
-        roads = [await self.rows(here) for here in self.here]
-        self.assertEqual(roads, [roads[0]] * 3)
+        await self.everywhere(self.road(("limit", 1, 20, 2)))
+        for number, wrong in enumerate(([3, True], [self.names[2], 1], ["s3", True], [self.names[2], True], [self.names[1]])):
+            bad = written(9 + number, site=self.names[2], excludes=wrong)
+            body = json.dumps({"form": 4, "operations": [bad]}).encode()
+            await self.bus.give(self.sites[0], Message(f"road/{self.sites[0]._road}/operations", body))
+            self.assertNotIn(tuple(bad["stamp"]), self.here[0].lab.state.by_stamp)
+
+    async def test_all_sites_choose_the_same_one_of_two_exclusions_with_one_count(self) -> None:
+        """One excludes a site, and the other includes it. They arrive in either order, and the greater hash wins."""
+        stamp = await self.shape(2, "block", 60, 60, 30, None, 1)
+        two = [exclude(stamp[0] + 1_000, self.names[2], out, About(site="eve-00000000")) for out in (True, False)]
+        for place, site in enumerate(self.sites):
+            for one in two[::-1] if place else two:
+                await self.bus.give(site, message_of(site, one))
+        await self.bus.rounds(3)
+        is_out = max(two, key=lambda one: one.stamp[1]) is two[0]
+        await self.everywhere(self.road() if is_out else self.road(("block", 60, 30, 1)))
         self.bus.seen.clear()
         await self.bus.rounds(3)  # and no more messages are sent
         self.assertEqual([one for one in self.bus.seen if one.topic.endswith("operations")], [])

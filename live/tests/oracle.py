@@ -8,7 +8,7 @@ from __future__ import annotations
 
 from typing import Any, Callable, Iterable, Mapping
 
-from server.model.operations import Operation, Shape, Stamp, is_raw, line_of
+from server.model.operations import Operation, Shape, Stamp
 from server.journal.records import read_plan_line
 from server.journal.state import plan_value
 
@@ -16,22 +16,21 @@ Values = dict[tuple[str, int], list[Any]]
 COUNTED = {"block": "length", "limit": "zones", "slow": "zones", "start": "zones", "inflow": "inlets", "watch": "detectors"}
 
 
-def text_order(one: Operation) -> tuple[Stamp, str]:
-    return one.stamp, one.text()
+OF_CAPACITY = "limit", "slow", "start"
 
 
 def counting_operations(held: Iterable[Operation]) -> list[Operation]:
     """Return the active operations, the latest first: those of included sites that no active operation undoes. An
     exclusion is undone by its own site alone, excluded or not."""
-    down = sorted(held, key=text_order, reverse=True)
+    down = sorted(held, key=lambda one: one.stamp, reverse=True)
     of_exclusions = {one.stamp for one in down if one.excludes is not None}
     size = -1
     while size != len(of_exclusions):
         size = len(of_exclusions)
         of_exclusions |= {one.stamp for one in down if one.undoes in of_exclusions}
 
-    def alive(excluded: Iterable[int]) -> list[Operation]:
-        undone: dict[Stamp, set[int]] = {}
+    def alive(excluded: Iterable[str]) -> list[Operation]:
+        undone: dict[Stamp, set[str]] = {}
         found = []
         for one in down:
             by = undone.get(one.stamp, set())
@@ -40,10 +39,11 @@ def counting_operations(held: Iterable[Operation]) -> list[Operation]:
                 if one.undoes is not None:
                     undone.setdefault(one.undoes, set()).add(one.site)
         return found
-    says: dict[int, bool] = {}
-    for one in reversed(alive(())):
-        if one.excludes is not None and not says.get(one.site):
-            says[one.excludes[0]] = one.excludes[1]
+    says: dict[str, bool] = {}
+    for one in alive(()):  # the newest says first; it says nothing if a newer one has excluded its own site
+        if one.excludes is not None and not says.get(one.site, False):
+            site, is_out = one.excludes
+            says[site] = says.get(site, is_out)
     return alive({site for site, is_out in says.items() if is_out})
 
 
@@ -65,29 +65,27 @@ class Oracle:
     def tops(self, held: Iterable[Operation]) -> dict[tuple[str, int], list[tuple[Any, Any]]]:
         """Return, for each object and step, the value and the line of the topmost layer; (None, None) if the plan's value
         applies."""
-        shapes: dict[Any, Shape | None] = {}
-        lines: dict[Any, Stamp] = {}
-        heights: dict[Any, Stamp] = {}
+        shapes: dict[Stamp, Shape | None] = {}
+        heights: dict[Stamp, Stamp] = {}
         for one in counting_operations(held):
-            for name, shape in one.sets.items():
-                if name not in shapes:
-                    shapes[name], lines[name] = shape, line_of(one, name)
-            for name, height in one.heights.items():
-                heights.setdefault(name, height)
-        there = {name: shape for name, shape in shapes.items() if shape is not None}
+            if one.line is None:
+                continue
+            if one.shape is not None or not one.top:
+                shapes.setdefault(one.line, one.shape)
+            if one.top:
+                heights.setdefault(one.line, one.stamp)
         found: dict[tuple[str, int], list[tuple[Any, Any]]] = {
             (kind, index): [(None, None)] * self.last for kind, many in self.there.items() for index in range(many)}
-
-        def rank(name: Any) -> Any:
-            return heights.get(lines[name], lines[name]), len(name), name
-        for name in sorted(there, key=rank):
-            shape = there[name]
+        for line in sorted(shapes, key=lambda line: (heights.get(line, line), line)):
+            shape = shapes[line]
+            if shape is None:
+                continue
             end = self.last if shape.end is None else min(self.last, shape.end)
-            if is_raw(name):
-                end = min([end, *(other[2] for other in there if is_raw(other) and other[:2] == name[:2] and other[2] > name[2])])
-            for index in range(shape.first, shape.last + 1):
-                if shape.begin < end:
-                    found[shape.kind, index][shape.begin:end] = [(shape.value, lines[name])] * (end - shape.begin)
+            parts = zip(OF_CAPACITY, shape.value[1:]) if isinstance(shape.value, tuple) else [(shape.kind, shape.value)]
+            for kind, value in parts:
+                for index in range(shape.first, shape.last + 1):
+                    if shape.begin < end:
+                        found[kind, index][shape.begin:end] = [(value, line)] * (end - shape.begin)
         return found
 
     def painted(self, held: Iterable[Operation]) -> Values:

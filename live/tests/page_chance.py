@@ -19,7 +19,7 @@ SEEDED = {**FREE_ROAD, "length": 200, "zone": 200, "words": 1, "zones": [[3, 6_5
 def over_days(tab: Tab, within: str) -> dict[str, list[str]]:
     """Return the table over many days, once it is there: each cell with its interval."""
     def is_there() -> bool:
-        return bool(tab.script("return document.querySelector(`${arguments[0]} .over`) !== null", within))
+        return bool(tab.script("return document.querySelector(`${arguments[0]} .figures`) !== null", within))
     for _ in range(3):  # programs of low priority are late if the machine has other work
         with contextlib.suppress(AssertionError):
             tab.until(is_there, "the days")
@@ -27,7 +27,7 @@ def over_days(tab: Tab, within: str) -> dict[str, list[str]]:
     assert is_there(), tab.truth()
     rows = tab.script("""
         const text = (one) => (one ? [...one.childNodes].filter(({nodeType}) => nodeType === 3).map(({data}) => data).join("") : "");
-        return [...document.querySelectorAll(`${arguments[0]} .over tbody tr`)].map((line) =>
+        return [...document.querySelectorAll(`${arguments[0]} .figures tbody tr`)].map((line) =>
           [...line.children].map((one) => `${text(one)} ${text(one.querySelector("small"))}`.trim()));""", within)
     return {name: cells for name, *cells in rows}
 
@@ -62,26 +62,26 @@ class TwoTabs(BrowserCase):
         ada.until(lambda: " of 3 days" in ada.text("days"), "how far it is")
         found = over_days(ada, "#over")
         self.assertFalse(ada.part("oneDay").is_displayed())
-        self.assertEqual(list(found), ["Vehicle hours", "Lost demand, cars", "Delay, vehicle hours", "Cars at 0.21 km",
-                                       "Seconds to the road's end"])
+        self.assertEqual(list(found), ["delay, vehicle hours", "vehicle hours on the road", "lost demand, cars",
+                                       "travel time from km 0 to the end, s", "cars at km 0.21"])
         # Below the cars is their travel time from the inlet, with its interval.
         trips = ada.script("return [...document.querySelectorAll('#over tbody .seconds')].map((one) => one.textContent)")
         self.assertEqual(len(trips), 3)
         for trip in trips:
             self.assertRegex(trip, r"^[+\u2212]?\d+\.\d s \u00b1 \d+\.\d")
         self.assertIn("Over 3 days, 0:00:00 to 0:15:00", ada.text("over"))
-        mine, shared, more = map(numbers, found["Vehicle hours"])
-        self.assertAlmostEqual(more[0], mine[0] - shared[0], delta=0.11)
+        mine, shared, more = map(numbers, found["vehicle hours on the road"])
+        self.assertAlmostEqual(more[0], mine[0] - shared[0], delta=0.011)
         # Some 0.4 cars arrive in a second, 50 in two minutes, apart from those that fit into the queue.
-        lost = numbers(found["Lost demand, cars"][2])
+        lost = numbers(found["lost demand, cars"][2])
         self.assertTrue(5 < lost[0] < 60 and lost[1] < lost[0], lost)
         # Both roads have the same drivers on a day, so the interval of the difference is far narrower than theirs.
-        self.assertLess(numbers(found["Cars at 0.21 km"][2])[1], numbers(found["Cars at 0.21 km"][1])[1])
+        self.assertLess(numbers(found["cars at km 0.21"][2])[1], numbers(found["cars at km 0.21"][1])[1])
         ada.press("Share…: Closed")
         preview_rows(ada)
         ada.press("Over 3 days", "#preview")
-        before = over_days(ada, "#preview")
-        self.assertEqual(before["Vehicle hours"], [found["Vehicle hours"][place] for place in (1, 0, 2)])
+        before = over_days(ada, "#previewOver")
+        self.assertEqual(before["vehicle hours on the road"], [found["vehicle hours on the road"][place] for place in (1, 0, 2)])
         ada.press("One day", "#preview")
         self.assertTrue(ada.part("previewFigures").is_displayed())
         ada.press("Not now")
@@ -110,7 +110,7 @@ class TwoTabs(BrowserCase):
         self.assertNotIn("stopped", ada.text("said"))
         file.unlink()
         ben.press("Over 3 days")
-        self.assertEqual(over_days(ben, "#over")["Vehicle hours"][2], "0 the same each day")
+        self.assertEqual(over_days(ben, "#over")["vehicle hours on the road"][2], "0 the same each day")
 
     def test_stopping_shows_the_days_that_are_done(self) -> None:
         """The third day never ends."""
@@ -123,8 +123,8 @@ class TwoTabs(BrowserCase):
         ada.press("Over 3 days")
         ada.until(lambda: "2 of 3 days" in ada.text("days"), "two are done")
         ada.press("Stop")
-        mine, shared, more = map(numbers, over_days(ada, "#over")["Vehicle hours"])
-        self.assertAlmostEqual(more[0], mine[0] - shared[0], delta=0.11)
+        mine, shared, more = map(numbers, over_days(ada, "#over")["vehicle hours on the road"])
+        self.assertAlmostEqual(more[0], mine[0] - shared[0], delta=0.011)
         self.assertIn("Over 2 of 3 days, stopped, 0:00:00 to 0:15:00", ada.text("over"))
         self.assertIn("Means of 2 days: ", ada.text("over"))
         self.assertTrue("\nmean of 2 days,unit,mine," in ada.save("Figures", "figures-2-days.csv").read_text(encoding="utf-8"))
@@ -137,15 +137,15 @@ class TwoTabs(BrowserCase):
         self.closed(ada)
         saved = ada.save_both("Script", "script.jsonl")
         hours = ada.script("return [...document.querySelectorAll('#figures tbody tr')].find((line) => "
-                           "line.firstChild.textContent === 'Vehicle hours').lastChild.textContent")
-        choices: list[list[str]] = [[], ["--days", "2"]]
+                           "line.firstChild.textContent === 'vehicle hours on the road').lastChild.textContent")
+        choices: list[list[str]] = [["--no-queue"], ["--days", "2"]]
         for words in choices:
             ran = subprocess.run([TOP / "recipes" / "delay" / "run", *words, "--out", new_folder(), *reversed(saved)],
                                  stdout=subprocess.PIPE, stderr=subprocess.PIPE, text=True, check=False)
             self.assertEqual(ran.returncode, 0, ran.stderr)
-            if not words:
+            if "--days" not in words:
                 rows = dict(line.rsplit(",", 1) for line in ran.stdout.splitlines() if line.startswith("check: cars in all rows"))
-                self.assertEqual([f"{float(value):+.1f}" for value in rows.values()], [hours.replace("−", "-")])
+                self.assertEqual([f"{float(value):+.2f}" for value in rows.values()], [hours.replace("−", "-")])
 
     def test_a_road_with_fixed_random_numbers_is_not_run_over_days(self) -> None:
         ada, = self.over_three(FREE_ROAD)[:1]

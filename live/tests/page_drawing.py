@@ -49,7 +49,7 @@ class OnePicture(BrowserCase):
         tab.drag((24.5, 24), (24.5, 30.1))
         first, second = operations_of(self.server)
         self.assertEqual(shapes_of(second), [["block", 24, 24, 12, 30, 1]])  # the closure ends later
-        self.assertEqual([name for name, _ in second["sets"]], [first["stamp"]])
+        self.assertEqual(second["layer"], first["stamp"])
         self.assertEqual(tab.lines("own"), ["Closed 0.18–0.188 km, 0:00:12–0:00:30 private"])
 
     def test_undo_restores_the_picture(self) -> None:

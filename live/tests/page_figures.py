@@ -101,7 +101,7 @@ class OneFreeway(BrowserCase):
 
     def test_a_demand_is_shown_as_it_was_asked_for(self) -> None:
         """The demand of the road's file is a table, and not lines of the lists and the report. A demand that a person put is
-        shown as it was typed."""
+        shown as it was typed, in whole cars per hour."""
         tab, = self.tabs
         self.server = free_server({"length": 1.5, "limit": 135, "slowing": 0.2, "main": [["7:00", 900], ["7:05", 612.3]],
                                    "ramps": [[0.45, [["7:00", 200], ["7:10", 310.5]]]], "minutes": 15, "begin": "07:00",
@@ -122,19 +122,19 @@ class OneFreeway(BrowserCase):
         tab.choose("inlet", "1")
         tab.type_and_apply(demand="447.69", timeFrom="7:05", timeTo="7:10")
         self.assertEqual(tab.lines("own"), ["Demand 448 cars/h, at 0.45 km, 07:05–07:10 private"])
-        self.assertEqual(operations_of(self.server)[-1]["demand"], 447.69)
+        self.assertEqual(operations_of(self.server)[-1]["demand"], 448)
         self.assertEqual([row["what"] for row in self.changes(tab)], ["54 km/h, 0.9–1.2 km, 07:04–07:08",
                                                                       "Demand 448 cars/h, at 0.45 km, 07:05–07:10"])
         page = tab.save("Report", "report.html").read_text(encoding="utf-8")
         self.assertEqual(re.findall("<li>([^<]*)</li>", page.split("Works")[1].split("</ul>")[0]),
                          ["54 km/h, 0.9–1.2 km, 07:04–07:08", "Demand 448 cars/h, at 0.45 km, 07:05–07:10 (new)"])
-        self.assertRegex(page, "on-ramp at km 0.45: 200 from 07:00, 448 from 07:05, 31[01] from 07:10")
+        self.assertIn("on-ramp at km 0.45: 200 from 07:00, 448 from 07:05, 311 from 07:10", page)
         table = tab.save("Figures as CSV", "figures.csv").read_text(encoding="utf-8")
-        minutes = [(200 * 5 + 447.69 * 5 + 310.5 * 50) / 60, (200 * 10 + 310.5 * 50) / 60]
+        minutes = [(200 * 5 + 448 * 5 + 311 * 50) / 60, (200 * 10 + 311 * 50) / 60]
         wanted = [str(float(f"{one:.4f}")).removesuffix(".0") for one in minutes]
-        self.assertIn(f"demand at 0.45 km,cars,{wanted[0]},{wanted[1]},", table)
+        self.assertIn(f"demand of the ramp,cars,{wanted[0]},{wanted[1]},", table)
         tab.press("Change", "#own")
-        self.assertEqual(tab.part("demand").get_attribute("value"), "447.69")
+        self.assertEqual(tab.part("demand").get_attribute("value"), "448")
 
     def changes(self, tab: Tab) -> list[dict[str, str]]:
         """Return the saved table of changes."""
@@ -195,11 +195,11 @@ class OneFreeway(BrowserCase):
         tab, = self.open(FREEWAY)
         tab.run_an_hour()
         self.exact(tab)
-        self.assertEqual(self.figures(tab, "Lost demand, cars")[2], 0)
+        self.assertEqual(self.figures(tab, "lost demand, cars")[2], 0)
         tab.tool("block")
         tab.type_and_apply(kmFrom="0.3", kmTo="0.35", timeFrom="0:20", timeTo="0:50")
         self.exact(tab)
-        mine, shared, more = self.figures(tab, "Lost demand, cars")
+        mine, shared, more = self.figures(tab, "lost demand, cars")
         # Some 1,250 cars an hour arrive, for 30 minutes, apart from those that fill 300 m.
         self.assertTrue(480 <= more <= 640, more)
         self.assertAlmostEqual(more, mine - shared, delta=1)
@@ -223,7 +223,7 @@ class OneFreeway(BrowserCase):
         tab.type_and_apply(kmFrom="3", kmTo="3.15", timeFrom="0:20", timeTo="0:30")
         self.exact(tab)
         self.assertEqual(set(tab.script("return meanwhile")) - {"gesture", "diagram"}, set())
-        self.assertNotEqual(self.figures(tab, "Vehicle hours")[2], 0)
+        self.assertNotEqual(self.figures(tab, "vehicle hours on the road")[2], 0)
 
     def test_a_demand_that_is_lowered_is_not_lost(self) -> None:
         tab, = self.open(FREEWAY)
@@ -231,11 +231,11 @@ class OneFreeway(BrowserCase):
         tab.tool("inflow")
         tab.type_and_apply(demand="400", timeFrom="0:10", timeTo="0:50")
         self.exact(tab)
-        mine, shared, _ = self.figures(tab, "Lost demand, cars")
+        mine, shared, _ = self.figures(tab, "lost demand, cars")
         self.assertLessEqual(mine, shared)
         self.assertEqual(tab.text("warnings"), "")
         # At the first detector, 375 m downstream of the inlet, some 560 cars fewer pass: 850 an hour for 40 minutes.
-        self.assertTrue(-640 <= self.figures(tab, "Cars at 0.375 km")[2] <= -480)
+        self.assertTrue(-640 <= self.figures(tab, "cars at km 0.375")[2] <= -480)
 
     def test_figures_are_the_same_at_each_zoom_and_before_sharing(self) -> None:
         tab, = self.open(FREEWAY)
@@ -250,7 +250,7 @@ class OneFreeway(BrowserCase):
             self.assertEqual(tab.text("period"), "0:00:00 to 1:00:00")
         self.assertEqual(found[3600], found[36000])
         hours, lost, delay = (self.figures(tab, name) for name in
-                              ("Vehicle hours", "Lost demand, cars", "Delay, vehicle hours"))
+                              ("vehicle hours on the road", "lost demand, cars", "delay, vehicle hours"))
         # Some 20 cars a minute arrive, for eight minutes, apart from the four minutes or so in which 600 m fill up.
         self.assertTrue(50 <= lost[2] <= 130, lost)
         # In the rows of the steps 1 to n each car counts a second.
@@ -259,16 +259,16 @@ class OneFreeway(BrowserCase):
             Promise.all([1, 901, 1801, 2701].map((from) =>
               ask({diagram: {at: store.me.at, from, to: from + 899}}))).then((said) =>
               done(said.map(({rows}) => rows.join("").replace(/[.#]/g, "").length)));"""))
-        self.assertEqual(hours[0], round(cars / 3600, 1))
+        self.assertEqual(hours[0], round(cars / 3600, 2))
         tab.press("Share…: Closed")
         rows = preview_rows(tab)
-        self.assertEqual(rows["Vehicle hours"], (hours[1], hours[0], hours[2]))
-        self.assertEqual(rows["Lost demand, cars"], (lost[1], lost[0], lost[2]))
-        self.assertEqual(rows["Delay of the cars that both roads have, vehicle hours"][2], delay[2])
-        parts = [rows[name][2] for name in ("– at 0 km", "– at 1.5 km")]
+        self.assertEqual(rows["vehicle hours on the road"], (hours[1], hours[0], hours[2]))
+        self.assertEqual(rows["lost demand, cars"], (lost[1], lost[0], lost[2]))
+        self.assertEqual(rows["delay, vehicle hours"][2], delay[2])
+        parts = [rows[name][2] for name in ("lost main demand, cars", "lost demand of the ramp, cars")]
         self.assertEqual(sum(parts), lost[2])
         # On the free road no more is lost than may be due to chance: two standard deviations of some 1,250 arrivals.
-        self.assertLess(abs(rows["– at 0 km"][0]), 2 * math.sqrt(1_250))
+        self.assertLess(abs(rows["lost main demand, cars"][0]), 2 * math.sqrt(1_250))
 
     def test_flow_and_speed_by_time_are_drawn_and_read(self) -> None:
         tab, = self.open(FREEWAY)

@@ -307,9 +307,8 @@ class TwoTabs(BrowserCase):
                 for row in self.rows(ada.save("Figures as CSV", "figures.csv"))}
         def number(text: str) -> float:
             return float(text.replace(",", "").replace("−", "-").replace("+", "") or "nan")
-        for name, saved, digits in (("Vehicle hours", "vehicle hours", 1), ("Lost demand, cars", "lost demand", 0),
-                                    ("Delay, vehicle hours", "delay of the cars that both roads have", 1),
-                                    ("Cars at 2.25 km", "cars at 2.25 km", 0)):
+        for name, saved, digits in (("vehicle hours on the road", "vehicle hours on the road", 2), ("lost demand, cars", "lost demand", 0),
+                                    ("delay, vehicle hours", "delay", 2), ("cars at km 2.25", "cars at km 2.25", 0)):
             wanted, = ([number(text) for text in values] for head, *values in shown if head == name)
             for one, other in zip(rows[saved], wanted):
                 self.assertTrue(not one or abs(float(one) - other) <= 0.51 * 10 ** -digits, (name, one, other))

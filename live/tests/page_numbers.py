@@ -1,22 +1,36 @@
-"""Compare the figures of two roads that the page shows and saves with what numpy finds in the cars of each step, on random roads."""
+"""Compare the figures of two roads that the page shows and saves with those of the cars of each step, on random roads. Some are
+simulated for five hours."""
 from __future__ import annotations
 
 import csv
 import random
 import re
-from typing import Any
 
 from browsers import BrowserCase, Tab
-from raw_figures import Run, compare, random_plan, random_shapes
+from raw_figures import STEPS, Run, Wanted, figures_of, random_plan, random_shapes
 from running import ALL
 
-ROADS = 12 if ALL else 3
-STEPS = 420
+ROADS = 30 if ALL else 5
+FIVE_HOURS = 18_000
 KM = 7.5 / 1_000
 
+SHOWN = {"delay": ("delay, vehicle hours", 2), "hours": ("vehicle hours on the road", 2), "travel": ("travel time from km {inlet} to the end, s", 1),
+         "cars": ("cars at km {detector}", 0)}
+"""By key: the name of a row of the page, and its decimals."""
+BESIDE = {"travel": (" s", 1), "flow": ("/h", 0), "speed": (" km/h", 1)}
+"""By key: the unit and the decimals of what stands beside the cars at a detector."""
+SAVED = {"delay": "delay", "delay at": "mean delay to {place}", "hours": "vehicle hours on the road", "admitted": "admitted cars",
+         "admitted at": "admitted cars of {name}", "travel": "travel time from km {inlet} to the end", "cars": "cars at km {detector}",
+         "flow": "km {detector}: cars/h", "speed": "km {detector}: time-mean km/h", "on": "km {detector}: time on"}
+"""By key: the name of a line of the saved table."""
 
-def number(text: str) -> float:
-    return float(re.sub(r"[^\d.+-]", "", text.replace("−", "-")) or "nan")
+
+def number(text: str) -> float | None:
+    return float(re.sub(r"[^\d.+-]", "", text.replace("−", "-"))) if re.search(r"\d", text) else None
+
+
+def km(cell: int) -> str:
+    return f"{cell * KM:.4f}".rstrip("0").rstrip(".")
 
 
 class Numbers(BrowserCase):
@@ -26,10 +40,10 @@ class Numbers(BrowserCase):
 
     def test_page_and_saved_figures_equal_those_of_the_cars(self) -> None:
         for case in range(ROADS):
-            chance = random.Random(500 + case)
+            chance, steps = random.Random(500 + case), FIVE_HOURS if case % 3 == 1 else STEPS
             plan = random_plan(chance)
             tab, = self.open(plan)
-            shapes = random_shapes(plan, chance)
+            shapes = random_shapes(plan, chance, steps)
             tab.driver.execute_async_script("""
                 const [shapes, to, done] = arguments;
                 ask({clock: {to}}).then(async () => {
@@ -38,61 +52,57 @@ class Numbers(BrowserCase):
                     await ask({gesture: {at: store.me.at, key: `k${index}`, note: "", shape}});
                   }
                   done();
-                });""", shapes, STEPS)
+                });""", shapes, steps)
             tab.driver.refresh()
             tab.until(lambda: tab.text("line").startswith("connected"), "connected")
-            tab.show(3_600)
-            tab.until(lambda: "…" not in tab.text("figures") and tab.text("period") == "0:00:00 to 0:07:00", "the figures")
+            tab.show(3_600 if steps < 3_600 else 36_000)
+            end = f"{steps // 3600}:{steps // 60 % 60:02}:00"
+            tab.until(lambda: "…" not in tab.text("figures") and tab.text("period") == f"0:00:00 to {end}", "the figures")
             edits = tab.driver.execute_async_script("""
                 const [done] = arguments;
                 Promise.all(["shared", store.me.at].map((at) => store.connection.ask({scenario: {at}}))).then((said) => done(said.map(({edits}) => edits)));""")
-            before, after = (Run(plan, one, STEPS) for one in edits)
-            cost = compare(before, after, 0, STEPS)
-            self.shown_is(tab, plan, before, after, cost)
-            self.saved_is(tab, plan, before, after, cost)
+            before, after = (Run(plan, one, steps) for one in edits)
+            wanted = figures_of(before, after, 0, steps)
+            self.inlets, self.detectors = ([km(one) for one in cells] for cells in ([cell for cell, _ in plan["inlets"]], plan["detectors"]))
+            self.shown_is(tab, wanted)
+            self.saved_is(tab, end, wanted)
 
-    def shown_is(self, tab: Tab, plan: object, before: Run, after: Run, cost: dict[str, Any]) -> None:
-        """Check the table of the page, to the digits that it shows."""
-        rows = {cells[0]: cells[1:] for cells in tab.script(
+    def name_of(self, names: str, inlet: int | None, detector: int | None) -> str:
+        """Return a name with its places."""
+        return names.format(inlet=None if inlet is None else self.inlets[inlet], detector=None if detector is None else self.detectors[detector],
+                            place="the end" if detector is None else f"km {self.detectors[detector]}", name="the ramp" if inlet else "the main road")
+
+    def near(self, text: str, value: float | None, digits: int, what: object) -> None:
+        found = number(text)
+        self.assertEqual(found is None, value is None, (what, text, value))
+        if found is not None and value is not None:
+            self.assertAlmostEqual(found, value, delta=0.5001 * 10 ** -digits, msg=str((what, text)))
+
+    def shown_is(self, tab: Tab, wanted: Wanted) -> None:
+        """Check the table of the page, to the digits that it shows: mine, shared and the difference."""
+        rows = {head[0]: cells for head, *cells in tab.script(
             "return [...document.querySelectorAll('#figures tbody tr')].map((line) => [...line.children].map((one) =>"
-            " [one.firstChild?.data ?? '', one.querySelector('.trip')?.textContent ?? '', one.querySelector('small')?.textContent ?? '']))"
-            ".map(([[name], ...cells]) => [name, ...cells])")}
-        hours = [run.hours(0, STEPS) for run in (after, before)]
-        for cell, one in zip(rows["Vehicle hours"], [*hours, hours[0] - hours[1]]):
-            self.assertAlmostEqual(number(cell[0]), one, delta=0.0501)
-        self.assertAlmostEqual(number(rows["Delay, vehicle hours"][2][0]), cost["delay_hours"], delta=0.0501)
-        for index, cell in enumerate(after.plan["detectors"]):
-            shown = next(cells for name, cells in rows.items() if name.startswith("Cars at ") and abs(number(name[8:]) - cell * KM) < 0.0006)
-            for (cars, trip, small), run in zip(shown, (after, before)):
-                counted, (_, seconds) = run.detector(index, 0, STEPS), run.travel(0, STEPS)[index]
-                self.assertEqual(number(cars), counted["cars"])
-                flow, speed = counted["flow"], counted["speed"]
-                parts = [*([] if flow is None else [f"{int(flow + 0.5):,}/h"]), *([] if speed is None else [f"{int(speed + 0.5)} km/h"])]
-                self.assertTrue(small.startswith(", ".join(parts)), (small, parts))
-                self.assertEqual("on for" in small or small == "off", counted["on"] < STEPS, small)
-                self.assertEqual(trip.strip(), "" if seconds is None else f"{int(seconds + 0.5):,} s")
+            " [one.firstChild?.data ?? '', one.querySelector('.trip')?.textContent ?? '', one.querySelector('small')?.textContent ?? '']))")}
+        for (key, inlet, detector), (before, after, change) in wanted.items():
+            if key in SHOWN and detector is None and not inlet or key == "cars":  # (travel times are those of the main road)
+                names, digits = SHOWN[key]
+                for (text, *_), value in zip(rows[self.name_of(names, inlet, detector)], (after, before, change)):
+                    self.near(text, value, digits, (key, inlet, detector))
+            elif key in BESIDE and not inlet:
+                unit, digits = BESIDE[key]
+                cells = rows[self.name_of("cars at km {detector}", None, detector)]
+                for (_, trip, small), value in zip(cells if key == "travel" else cells[:2], (after, before, change)):
+                    text, = (text for text in (trip if key == "travel" else small).split(", ") if re.fullmatch(rf"\s*\S+{unit}", text))
+                    self.near(text, value, digits, (key, inlet, detector))
 
-    def saved_is(self, tab: Tab, plan: object, before: Run, after: Run, cost: dict[str, Any]) -> None:
+    def saved_is(self, tab: Tab, end: str, wanted: Wanted) -> None:
         """Check figures.csv to four digits."""
         with open(tab.save("Figures as CSV", "figures.csv"), encoding="utf-8", newline="") as file:
-            self.assertEqual(next(file), "# the road of Ada and the shared one, plan.json, 0:00:00 to 0:07:00\n")
+            self.assertEqual(next(file), f"# the road of Ada and the shared one, plan.json, 0:00:00 to {end}\n")
             rows = {row["figure"]: row for row in csv.DictReader(file)}
-
-        def near(name: str, wanted: list[object], columns: tuple[str, ...] = ("mine", "shared")) -> None:
-            for column, one in zip(columns, wanted):
-                found = rows[name][column]
-                self.assertTrue(found == "" if one is None else abs(float(found) - float(str(one))) < 6e-5, (name, column, found, one))
-        near("vehicle hours", [run.hours(0, STEPS) for run in (after, before)])
-        near("delay of the cars that both roads have", [cost["delay_hours"]], ("mine minus shared",))
-        near("admitted cars", [sum(run.admitted(0, STEPS)) for run in (after, before)])
-        places = [*(f"{one} km" for one in self.places(rows)), "the road's end"]
-        for index, place in enumerate(places):
-            near(f"travel time to {place}", [run.travel(0, STEPS)[index][1] for run in (after, before)])
-            near(f"delay of the cars that both roads have to {place}", [cost["later"][index][1]], ("mine minus shared",))
-        for index, place in enumerate(places[:-1]):
-            for name, field in (("cars", "cars"), ("flow", "flow"), ("time-mean speed", "speed"), ("time on", "on")):
-                near(f"{name} at {place}", [run.detector(index, 0, STEPS)[field] for run in (after, before)])
-
-    def places(self, rows: dict[str, dict[str, str]]) -> list[str]:
-        """Return the places of the detectors, in the order of the table."""
-        return [match[1] for name in rows if (match := re.fullmatch(r"time on at ([\d.]+) km", name))]
+        for (key, inlet, detector), values in wanted.items():
+            names = SAVED[key] if key != "travel" or detector is None else "km {detector}: travel time from km {inlet}"
+            row = rows.pop(self.name_of(names, inlet, detector))
+            for column, value in zip(("shared", "mine", "mine minus shared"), values):
+                self.near(row[column], value, 4, (key, inlet, detector, column))
+        self.assertTrue(all(re.match("lost |demand", name) for name in rows), rows.keys())

@@ -205,7 +205,7 @@ class Sharing(BrowserCase):
                 const done = arguments[0];
                 Promise.all(["before", "after"].map((at) => ask({sums: {at, from: 0, to: 3600}}))).then((said) =>
                   done(said.map(({sums}) => sums.reduce((one, other) => one + other, 0))));""")
-            self.assertEqual([round(one / 3600, 1) for one in steps], list(rows["Vehicle hours"][:2]))
+            self.assertEqual([round(one / 3600, 2) for one in steps], list(rows["vehicle hours on the road"][:2]))
             ada.press("Not now")
             ada.settled()
         self.assertEqual(ada.faults(), [])
@@ -275,12 +275,12 @@ class Sharing(BrowserCase):
         ada.limit("2", "0:40", "0:50")
         ada.press("Share…: 27 km/h")
         rows = preview_rows(ada)
-        self.assertEqual(list(rows), ["Vehicle hours", "Cars admitted", "Lost demand, cars",
-                                      "Delay of the cars that both roads have, vehicle hours", "Cars an hour at 0.21 km", "Seconds to 0.21 km",
-                                      "Seconds to the road's end"])
+        self.assertEqual(list(rows), ["delay, vehicle hours", "mean delay to km 0.21, s", "mean delay to the end, s", "vehicle hours on the road",
+                                      "admitted cars", "lost demand, cars", "travel time from km 0 to the end, s", "cars at km 0.21",
+                                      "km 0.21: cars/h", "km 0.21: time-mean km/h", "km 0.21: travel time from km 0, s"])
         # A car every other step drives over the 39 cells at 3 cells a step, and in ten of sixty minutes at 1.
-        self.assertAlmostEqual(rows["Vehicle hours"][0], 1_800 * 13 / 3_600, delta=0.5)
-        self.assertAlmostEqual(rows["Vehicle hours"][1], 1_500 * 13 / 3_600 + 300 * 39 / 3_600, delta=0.5)
+        self.assertAlmostEqual(rows["vehicle hours on the road"][0], 1_800 * 13 / 3_600, delta=0.5)
+        self.assertAlmostEqual(rows["vehicle hours on the road"][1], 1_500 * 13 / 3_600 + 300 * 39 / 3_600, delta=0.5)
         ada.press("Share now")
         ada.settled()
         self.assertEqual([text[-7:] for text in ada.lines("own") + ada.lines("held")], ["private", " shared"])
@@ -344,7 +344,7 @@ class Sharing(BrowserCase):
         ben.press("Look first")
         # As in the test above: ten minutes at a third of the speed, compared with ten at two thirds.
         free, slow, middle = (cars / 3_600 for cars in (300 * 13, 300 * 39, 300 * 19.5))
-        now, then, _ = preview_rows(ben)["Vehicle hours"]
+        now, then, _ = preview_rows(ben)["vehicle hours on the road"]
         self.assertAlmostEqual(now, 5 * free + middle, delta=0.5)
         self.assertAlmostEqual(then, 4 * free + middle + slow, delta=0.5)
         self.assertEqual(ben.faults(), [])

@@ -44,17 +44,17 @@ class TwoTabs(BrowserCase):
         title, *said = ada.script(lines)
         self.assertEqual(title, "“night”, “works”")
         closed, demand, limit = sorted(said)
-        self.assertEqual((closed, limit), ("Closed 0.75–0.765 km, from 0:10:00 on, and 1 more edit", "Limit withdrawn"))
+        self.assertEqual((closed, limit), ("Closed 0.75–0.765 km, 0:10:00–0:11:40", "Limit withdrawn"))
         # With a slowing chance of 0.1 an inflow chance of 0.588 admits 1,500 cars an hour, within half a per cent.
         self.assertRegex(demand, r"^Demand 1,(49[3-9]|50[0-7]) cars/h, at 0 km, from 0:10:00 on$")
 
     async def at_night(self) -> None:
         async with self.server.seat("Cron") as cron:
-            await cron.ask("edit", object=["limit", 11], step=5400, value=2)
+            await cron.ask("gesture", key="limit", shape=["limit", 11, 11, 5400, None, 2])
             await cron.ask("send", name="shared", title="night")
-            await cron.ask("withdraw", object=["limit", 11], step=5400)
-            await cron.ask("edit", object=["inflow", 0], step=600, value=38535)
-            await cron.ask("gesture", key="k", edits=[["block", 100, 600, 1], ["block", 101, 600, 1], ["block", 100, 700, 0]])
+            await cron.ask("gesture", key="gone", layer="limit", shape=None)
+            await cron.ask("gesture", key="demand", shape=["inflow", 0, 0, 600, None, 38535])
+            await cron.ask("gesture", key="closed", shape=["block", 100, 101, 600, 700, 1])
             await cron.ask("send", name="shared", title="works")
 
     def test_changes_from_the_shell_can_be_changed(self) -> None:
@@ -70,8 +70,7 @@ class TwoTabs(BrowserCase):
         self.assertEqual(values, ["2", "4.125", "4.5", "1:30:00", ""])
         ada.choose("limit", "3")
         ada.type_and_apply(timeTo="1:40")
-        # A shape, which ends, replaces zone 11's limit from 1:30 on, which was a raw edit.
-        self.assertEqual(shapes_of(operations_of(self.server)[-1]), [["limit", 11, 11, 5400, 6000, 3], ["limit", 11, 5400, None]])
+        self.assertEqual(shapes_of(operations_of(self.server)[-1]), [["limit", 11, 11, 5400, 6000, 3]])
         self.assertEqual(ada.lines("own"), ["81 km/h, 4.125–4.5 km, 1:30:00–1:40:00 private"])
         ada.press("Change: Closed")
         values = [ada.part(name).get_attribute("value") for name in ("kmFrom", "kmTo", "timeFrom", "timeTo")]
@@ -79,16 +78,9 @@ class TwoTabs(BrowserCase):
 
     async def by_a_script(self) -> None:
         async with self.server.seat("Cron") as cron:
-            await cron.ask("edit", object=["limit", 11], step=5400, value=2)
-            for number, edits in enumerate((
-                    [["block", 100, 600, 1], ["block", 101, 600, 1], ["block", 100, 700, 0], ["block", 101, 700, 0]],
-                    # These have no shape: two values, a gap, two kinds, a value at the end that is not the plan's, one end too
-                    # few.
-                    [["limit", 1, 600, 3], ["limit", 2, 600, 4]], [["limit", 4, 600, 3], ["limit", 6, 600, 3]],
-                    [["limit", 7, 600, 3], ["slow", 7, 600, 3]], [["limit", 8, 600, 3], ["limit", 8, 700, 4]],
-                    [["block", 300, 600, 1], ["block", 301, 600, 1], ["block", 300, 700, 0]],
-                    [["watch", 0, 600, 0], ["watch", 1, 600, 0]])):
-                await cron.ask("gesture", key=f"k{number}", edits=edits)
+            await cron.ask("gesture", key="limit", shape=["limit", 11, 11, 5400, None, 2])
+            await cron.ask("gesture", key="closed", shape=["block", 100, 101, 600, 700, 1])
+            await cron.ask("gesture", key="works", shape=["capacity", 2, 3, 600, 700, [900, 2, 9_000, 20_000]])  # the page cannot change it
             await cron.ask("send", name="shared")
 
     def test_everybody_who_joins_sees_how_to_begin(self) -> None:
@@ -110,15 +102,15 @@ class TwoTabs(BrowserCase):
         ada.tool("block")
         ada.type_and_apply(kmFrom="0.18", kmTo="0.19", timeFrom="0:10", timeTo="")
         ada.until(lambda: "…" not in ada.text("figures"), "what is counted car by car")
-        cells = ada.script("return [...document.querySelectorAll('#figures tbody tr:nth-last-child(2) > *')].map((one) => one.innerText)")
+        cells = ada.script("return [...document.querySelectorAll('#figures tbody tr:last-child > *')].map((one) => one.innerText)")
         # A car enters every two steps (0..2...., .1......, by the example's rows), and drives at 3 cells a step. The first one
         # passes cell 28 at about step 10, and the last one of mine some steps after 0:10:00.
         name, mine, shared, change = cells
-        self.assertEqual(name, "Cars at 0.21 km")
-        self.assertRegex(shared, r"^1,79[4-6]\n1[01] s\n1,79[4-6]/h, 81 km/h$")
-        self.assertRegex(mine, r"^29[5-7]\n1[01] s\n29[5-7]/h, 81 km/h$")
+        self.assertEqual(name, "cars at km 0.21")
+        self.assertRegex(shared, r"^1,79[4-6]\n1[01]\.\d s\n1,79[4-6]/h, 81\.0 km/h$")
+        self.assertRegex(mine, r"^29[5-7]\n1[01]\.\d s\n29[5-7]/h, 81\.0 km/h$")
         passed = [int(text.split()[0].replace(",", "")) for text in (mine, shared)]
-        self.assertEqual(change, f"−{passed[1] - passed[0]:,}\n0 s")
+        self.assertRegex(change, rf"^−{passed[1] - passed[0]:,}\n[−+]?0(\.\d)? s$")
 
     def test_everything_can_be_done_with_the_keyboard_alone(self) -> None:
         ada, ben = self.open(FREE_ROAD)
@@ -204,7 +196,7 @@ class TwoTabs(BrowserCase):
         ada.keys("z", "z")
         self.server.start()
         ada.until(lambda: len(ada.lines("own")) == 6 and "pending" not in ada.text("own"), "confirmed")
-        self.assertEqual([operation["sets"][0][1][5] for operation in operations_of(self.server)[:8]], [2, 0, 1, 3, 4, 5, 6, 7])
+        self.assertEqual([operation["shape"][5] for operation in operations_of(self.server)[:8]], [2, 0, 1, 3, 4, 5, 6, 7])
         self.assertEqual(ada.lines("own")[0], "135 km/h, 0–0.3 km, from 0:20:00 on private")
         self.assertEqual(ada.value_at("limit", 0, 1200), [5])
         ada.settled()
@@ -311,13 +303,14 @@ class TwoTabs(BrowserCase):
         broker = Broker()
         self.addCleanup(broker.kill)
         ada, = self.open(FREE_ROAD, ("Ada",), "--broker", broker.address)
-        there = Server(None, FREE_ROAD, "--broker", broker.address, "--site", "2")
+        there = Server(None, FREE_ROAD, "--broker", broker.address, "--site", "south")
         self.addCleanup(there.kill)
         ada.until(lambda: ada.text("line") == "connected, with 1 other site (messages are not authenticated)", "the other site")
         ada.open_part("sites")
-        ada.press("Exclude: site 2")
-        ada.until(lambda: ada.lines("own") == ["Site 2 is excluded private"], "site 2 is excluded")
-        ada.press("Withdraw: Site 2")
+        site = there.journal()[0]["lab"]["site"]
+        ada.press(f"Exclude: site {site}")
+        ada.until(lambda: ada.lines("own") == [f"Site {site} is excluded private"], "the other site is excluded")
+        ada.press(f"Withdraw: Site {site}")
         ada.until(lambda: ada.lines("own") == [], "and let in again")
         ada.settled()
         broker.kill()

@@ -15,18 +15,18 @@ from typing import Any, Iterable
 from oracle import Oracle
 from running import ALL
 from server.model import changes, choices, projection, seen
-from server.model.operations import About, Operation, Shape, Stamp, edit, exclude, is_raw, lift, put, undo
+from server.model.operations import About, Operation, Shape, Stamp, exclude, lift, put, undo
 from server.model.reading import read_operation
-from server.model.road import Road, change, is_standing
+from server.model.road import Road, change
 
 STEPS, LAST = 30, 43
 THERE = {"block": 10, "limit": 6, "slow": 6, "start": 6, "inflow": 4, "watch": 3}
 HISTORIES = 5_000 if ALL else 200
 
 
-def made_by(road: Road, number: int) -> list[Operation]:
-    """Return the operations of a road that were made under a number."""
-    return [one for one in road.record.operations() if one.stamp[1] == number]
+def made_by(road: Road, author: About) -> list[Operation]:
+    """Return the operations of a road that an author made."""
+    return [one for one in road.record.operations() if (one.about.who, one.site) == (author.who, author.site)]
 
 
 def plan(kind: str, index: int) -> int | None:
@@ -73,23 +73,23 @@ class Replica:
 def entry(road: Road, line: Stamp) -> Any:
     """Return what the list shows of a line."""
     losses = seen.find_overruled(road, line)
-    return {"shown": seen.visible_rectangles(road, line), "standing": is_standing(road, line), "operations": [
+    return {"shown": seen.visible_rectangles(road, line), "standing": line in road.layers, "covered": seen.covered_rectangles(road, line), "operations": [
         (one.text(), road.record.counts(one), losses[one].stamp if one in losses else None)
         for one in changes.operations_on(road, line)]}
 
 
 class Seat(Replica):
-    def __init__(self, number: int, counted: Counter[str]) -> None:
+    def __init__(self, author: About, counted: Counter[str]) -> None:
         super().__init__(counted)
-        self.number, self.upto = number, 0
+        self.author, self.upto = author, 0
 
 
 class Site:
     def __init__(self, number: int, seats: int, counted: Counter[str]) -> None:
-        self.number, self.shared, self.counted = number, Replica(counted), counted
+        self.name, self.shared, self.counted = f"site{number}-0000000{number}", Replica(counted), counted
         self.order: list[Operation] = []
         self.sent: list[str] = []
-        self.seats = [Seat(64 * number + 1 + at, counted) for at in range(seats)]
+        self.seats = [Seat(About(f"n{at}", site=self.name), counted) for at in range(seats)]
 
     def holds(self, operations: Iterable[Operation], chance: random.Random) -> None:
         fresh = [one for one in operations if one not in self.shared.road]
@@ -112,40 +112,37 @@ class Site:
         self.sent.append(json.dumps([one.written() for one in operations]))
 
 
-def stamp_of(seat: Seat, chance: random.Random) -> Stamp:
-    """Return a stamp above all that are held; sometimes far above, as if from the clock of another site."""
-    return max([0, *(stamp[0] for stamp in seat.road.record.held)]) + chance.choice([1, 1, 1, 2, 9]), seat.number
+def count_of(seat: Seat, chance: random.Random) -> int:
+    """Return a count above all that are held; sometimes far above, as if from the clock of another site."""
+    return max([0, *(stamp[0] for stamp in seat.road.record.held)]) + chance.choice([1, 1, 1, 2, 9])
 
 
 def random_shape(chance: random.Random) -> Shape:
-    kind = chance.choice(list(THERE))
-    first, begin = chance.randrange(THERE[kind]), chance.randrange(STEPS)
+    kind = chance.choice([*THERE, "capacity"])
+    objects = THERE["limit" if kind == "capacity" else kind]
+    first, begin = chance.randrange(objects), chance.randrange(STEPS)
     end = None if chance.random() < 0.25 else begin + 1 + chance.randrange(12)
     value = chance.randrange(2) if kind in ("block", "watch") else chance.randrange(6)
-    return Shape(kind, first, min(THERE[kind] - 1, first + chance.randrange(5)), begin, end, value)
+    return Shape(kind, first, min(objects - 1, first + chance.randrange(5)), begin, end,
+                 (900, value, chance.randrange(6), chance.randrange(6)) if kind == "capacity" else value)
 
 
 def random_operation(chance: random.Random, seat: Seat, sites: list[Site]) -> Operation:
-    stamp, what = stamp_of(seat, chance), chance.random()
+    count, what, author = count_of(seat, chance), chance.random(), seat.author
     lines = sorted(changes.all_lines(seat.road))
-    if what < 0.3 or not lines:
-        return put(stamp, random_shape(chance), About(who=f"n{seat.number}"))
-    if what < 0.42:
-        kind = chance.choice(list(THERE))
-        index = chance.randrange(THERE[kind])
-        steps = chance.sample(range(STEPS), chance.randrange(1, 4))
-        return edit(stamp, {(kind, index, step): None if chance.random() < 0.3 else chance.randrange(2) for step in steps})
+    if what < 0.36 or not lines:
+        return put(count, random_shape(chance), author)
     line = chance.choice(lines)
     if what < 0.6:
-        return change(seat.road, stamp, line, random_shape(chance), chance.random() < 0.3)
+        return change(seat.road, count, line, random_shape(chance), chance.random() < 0.3, author)
     if what < 0.68:
-        return lift(stamp, line)
+        return lift(count, line, author)
     if what < 0.76:
-        return change(seat.road, stamp, line, None)
-    if what < 0.78 and len(sites) > 1:
-        other = chance.choice([site for site in sites if site.number != seat.number // 64])
-        return exclude(stamp, other.number, chance.random() < 0.6)
-    return undo(stamp, chance.choice(list(seat.road.record.operations())))
+        return change(seat.road, count, line, None, about=author)
+    if what < 0.79 and len(sites) > 1:
+        other = chance.choice([site for site in sites if site.name != author.site])
+        return exclude(count, other.name, chance.random() < 0.6, author)
+    return undo(count, chance.choice(list(seat.road.record.operations())), author)
 
 
 def same(one: Road, other: Road) -> None:
@@ -159,7 +156,7 @@ class History:
     def __init__(self, seed: int, counted: Counter[str]) -> None:
         self.chance, self.counted = random.Random(seed), counted
         self.sites = [Site(number + 1, self.chance.randrange(1, 4), counted) for number in range(self.chance.randrange(2, 5))]
-        self.heard: set[tuple[int, int, int]] = set()
+        self.heard: set[tuple[str, str, int]] = set()
 
     def run(self, acts: tuple[int, int] = (10, 45)) -> None:
         for _ in range(self.chance.randrange(*acts)):
@@ -177,8 +174,6 @@ class History:
             self.share(site, seat)
         elif what < 0.82:
             site.takes(seat, chance.choice([len(site.order), len(site.order), chance.randrange(len(site.order) + 1)]), chance)
-        elif what < 0.84 and seat.road.record.held:
-            self.reuse_stamp(site, seat)
         else:
             self.deliver(site)
         if chance.random() < 0.3:
@@ -200,35 +195,27 @@ class History:
 
     def press(self, seat: Seat) -> None:
         for redo in (False, True):
-            found = choices.find_undoable(seat.road, made_by(seat.road, seat.number))
+            found = choices.find_undoable(seat.road, made_by(seat.road, seat.author))
             one = found.redo if redo else found.undo
             if one is not None and self.chance.random() < 0.7:
-                self.make(seat, undo(stamp_of(seat, self.chance), one))
+                self.make(seat, undo(count_of(seat, self.chance), one, seat.author))
 
     def share(self, site: Site, seat: Seat) -> None:
-        some = choices.shareable(seat.road, site.shared.road, made_by(seat.road, seat.number))
+        some = choices.shareable(seat.road, site.shared.road, made_by(seat.road, seat.author))
         if self.chance.random() < 0.4:
             stamps = {one.stamp for one in seat.road.record.operations() if self.chance.random() < 0.5}
-            some = choices.sendable(seat.road, site.shared.road, made_by(seat.road, seat.number), stamps)
+            some = choices.sendable(seat.road, site.shared.road, made_by(seat.road, seat.author), stamps)
         if some:
             site.shares(some, self.chance)
-
-    def reuse_stamp(self, site: Site, seat: Seat) -> None:
-        """Make an operation whose stamp was used before, as a copied folder does."""
-        old = self.chance.choice(list(seat.road.record.operations()))
-        if old.stamp[1] == seat.number and old.sets and not any(map(is_raw, old.sets)):
-            site.shares([Operation(old.stamp, {next(iter(old.sets)): random_shape(self.chance)}, old.heights, seen=old.seen,
-                                   about=About(who="twin"))], self.chance)
-            self.counted["twins"] += 1
 
     def deliver(self, to: Site, likely: float = 0.5) -> None:
         """Deliver messages of others in any order, some twice, and many late."""
         some = [(other, at) for other in self.sites if other is not to for at in range(len(other.sent))
-                if (to.number, other.number, at) not in self.heard or self.chance.random() < 0.1]
+                if (to.name, other.name, at) not in self.heard or self.chance.random() < 0.1]
         some = [one for one in some if self.chance.random() < likely]
         self.chance.shuffle(some)
         for other, at in some:
-            self.heard.add((to.number, other.number, at))
+            self.heard.add((to.name, other.name, at))
             to.hears(other.sent[at], self.chance)
 
     # What holds
@@ -239,47 +226,50 @@ class History:
         if any(each.excludes is not None for each in record.operations()):
             return
         after = before.adding([one])
-        undone = record.held.get(one.undoes or (0, 0), ())
-        if not any(each in record.void for each in undone):
-            never = EMPTY.adding(each for each in record.operations() if each not in undone)
+        undone = record.held.get(one.undoes or (0, ""))
+        if undone is not None and undone not in record.void:
+            never = EMPTY.adding(each for each in record.operations() if each is not undone)
             assert after.layers == never.layers
-        again = after.adding([undo((one.stamp[0] + 1, one.stamp[1]), one)])
+        again = after.adding([undo(one.stamp[0] + 1, one, one.about)])
         assert again.layers == before.layers
         self.counted["undone"] += 1
 
     def check_shown(self, road: Road) -> None:
         top = ORACLE.tops(road.record.operations())
-        for name in self.chance.sample(sorted(road.layers, key=str), min(3, len(road.layers))):
+        for name in self.chance.sample(sorted(road.layers), min(3, len(road.layers))):
             layer = road.layers[name]
             found: dict[Any, Any] = {}
-            for kind, low, high, since, until, _, by in seen.shown_layer(road, layer):
+            for kind, low, high, since, until, _, by in seen.visible_rectangles(road, name):
                 for index in range(low, high + 1):
                     for step in range(since, LAST if until is None else min(LAST, until)):
                         assert (kind, index, step) not in found
                         found[kind, index, step] = by
-            wanted = {(layer.kind, index, step): None if top[layer.kind, index][step][1] == layer.line else
-                      top[layer.kind, index][step][1] for index in range(layer.first, layer.last + 1)
-                      for step in range(layer.begin, min(LAST, road.end_of(layer)))}
+            kinds = ["limit", "slow", "start"] if layer.kind == "capacity" else [layer.kind]
+            wanted = {(kind, index, step): None if top[kind, index][step][1] == name else top[kind, index][step][1] for kind in kinds
+                      for index in range(layer.first, layer.last + 1) for step in range(layer.begin, min(LAST, layer.end))}
             assert found == wanted, (name, found, wanted)
+            covered = {(index, step) for one in seen.covered_rectangles(road, name) for index in range(one.first, one.last + 1)
+                       for step in range(one.begin, min(LAST, one.end or LAST))}
+            assert covered == ({key[1:] for key, by in wanted.items() if by is not None} if layer.kind == "capacity" else set())
             self.counted["shown"] += 1
 
     def check_seat(self, site: Site, seat: Seat) -> None:
         """Check that Z and Redo change something, and that the shareable operations are active and make the shared road the seat's."""
         road, shared, chance = seat.road, site.shared.road, self.chance
-        found = choices.find_undoable(road, made_by(road, seat.number))
+        found = choices.find_undoable(road, made_by(road, seat.author))
         for one in (found.undo, found.redo):
             if one is not None:
-                then = road.adding([undo(stamp_of(seat, chance), one)])
+                then = road.adding([undo(count_of(seat, chance), one, seat.author)])
                 assert then.layers != road.layers or then.record.excluded != road.record.excluded, "Z does nothing"
         for one in found.blocked:
-            assert road.adding([undo(stamp_of(seat, chance), one)]).layers == road.layers
-            assert any(other.stamp[1] != seat.number for other in choices.find_overruling(road, one)), "somebody else is named"
-        some = choices.shareable(road, shared, made_by(road, seat.number))
+            assert road.adding([undo(count_of(seat, chance), one, seat.author)]).layers == road.layers
+            assert any((other.about.who, other.site) != (seat.author.who, seat.author.site) for other in choices.find_overruling(road, one)), "somebody else is named"
+        some = choices.shareable(road, shared, made_by(road, seat.author))
         assert all(map(road.record.counts, some)), "what is undone is not shared"
         everything = road.adding(site.order)
-        then = shared.adding(choices.shareable(everything, shared, made_by(everything, seat.number)))
+        then = shared.adding(choices.shareable(everything, shared, made_by(everything, seat.author)))
         assert then.layers == everything.layers and then.record.excluded == everything.record.excluded
-        gone = choices.find_forgettable(road, shared, made_by(road, seat.number), chance.randrange(4))
+        gone = choices.find_forgettable(road, shared, made_by(road, seat.author), chance.randrange(4))
         left = EMPTY.adding(one for one in road.record.operations() if one not in gone)
         assert left.layers == road.layers and left.record.excluded == road.record.excluded
         self.counted["forgettable"] += len(gone)
@@ -291,7 +281,7 @@ class History:
         another."""
         for site in self.sites:
             for seat in site.seats:
-                some = choices.shareable(seat.road, site.shared.road, made_by(seat.road, seat.number))
+                some = choices.shareable(seat.road, site.shared.road, made_by(seat.road, seat.author))
                 if some:
                     site.shares(some, self.chance)
         sent = sum(len(site.sent) for site in self.sites)
@@ -303,7 +293,7 @@ class History:
             for seat in site.seats:
                 site.takes(seat, len(site.order), self.chance)
                 # Somebody else's undo may have uncovered an operation of the seat that did not need to be shared before.
-                if not choices.shareable(seat.road, site.shared.road, made_by(seat.road, seat.number)):
+                if not choices.shareable(seat.road, site.shared.road, made_by(seat.road, seat.author)):
                     assert seat.road.layers == site.shared.road.layers
 
 
@@ -313,5 +303,5 @@ class Painted(unittest.TestCase):
         for seed in range(HISTORIES):
             with self.subTest(seed=seed):
                 History(seed, counted).run()
-        for what in ("roads", "lists", "undone", "twins", "shown", "forgettable"):
+        for what in ("roads", "lists", "undone", "shown", "forgettable"):
             self.assertGreater(counted[what], HISTORIES // 20, what)

@@ -27,8 +27,8 @@ class Pictures(Case):
         self.a6 = self.server()
         self.ada = await self.enterAsyncContext(self.a6.seat("Ada"))
         await self.ada.say("clock", to=LAST)
-        edits = [["block", 60, 30, 1], ["block", 60, 80, 0], ["limit", 1, 40, 2]]
-        await self.ada.ask("gesture", key="1", note="=1+1", edits=edits)
+        await self.ada.ask("gesture", key="1", note="=1+1", shape=["block", 60, 60, 30, 80, 1])
+        await self.ada.ask("gesture", key="2", shape=["limit", 1, 1, 40, None, 2])
         await self.ada.ask("advance", to=LAST)
         self.picture = [(await self.ada.ask("cells", step=step))["cells"] for step in range(LAST + 1)]
 

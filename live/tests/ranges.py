@@ -1,7 +1,7 @@
 """Test that a site that was away gets what it lacks and little else."""
 from __future__ import annotations
 
-import hashlib
+import base64
 import json
 import random
 import unittest
@@ -10,17 +10,17 @@ from unittest import mock
 
 from faulty import Bus, Here, message_of
 from running import Case
-from server.model.operations import Operation, Shape, put
+from server.model.operations import About, Operation, Shape, put
 from server.sites.sums import MOST_RANGES, Sums
 
 
-def made(count: int, number: int = 129) -> Operation:
-    return put((count, number), Shape("limit", count % 6, count % 6, count, None, 3))
+def made(count: int, value: int = 3) -> Operation:
+    return put(count, Shape("limit", count % 6, count % 6, count, None, value), About(site="east-00000000"))
 
 
 def hash_by_hand(operations: list[Operation]) -> str:
-    """Return the hash of operations: the sum of the first 8 bytes of the SHA-256 of each text."""
-    return f"{sum(int.from_bytes(hashlib.sha256(one.text().encode()).digest()[:8], 'big') for one in operations) % (1 << 64):x}"
+    """Return the hash of operations: the sum of the first 64 bits of the hashes in their names."""
+    return f"{sum(int(base64.b64decode(one.stamp[1] + '==', b'-_')[:8].hex(), 16) for one in operations) % (1 << 64):x}"
 
 
 class Ranges(unittest.TestCase):
@@ -44,14 +44,15 @@ class Ranges(unittest.TestCase):
                 self.assertEqual(sums.total, hash_by_hand(operations))
                 self.assertEqual(sums.differing(found), [])
 
-    def test_twins_are_in_one_range(self) -> None:
+    def test_operations_with_equal_counts_may_be_in_two_ranges(self) -> None:
         with mock.patch("server.sites.sums.MOST_IN_RANGE", 2):
-            twins = [put((2, 129), Shape("limit", one, one, 5, None, 3)) for one in (1, 2)]
+            equal = sorted((made(2, value) for value in range(5)), key=lambda one: one.stamp)
             one, other = Sums(), Sums()
-            one.add([made(1), *twins, made(3)])
-            for each in (made(3), *twins[::-1], made(1)):
+            one.add([made(1), *equal, made(3)])
+            for each in (made(3), *equal[::-1], made(1)):
                 other.add([each])
             self.assertEqual((other.differing(one.ranges()), one.differing(other.ranges())), ([], []))
+            self.assertEqual([begin for begin, _ in one.ranges()], [None, equal[1].stamp, equal[3].stamp, made(3).stamp])
 
     def test_a_message_has_a_few_kilobytes_however_many_operations_there_are(self) -> None:
         sums = Sums()
@@ -64,7 +65,7 @@ class Ranges(unittest.TestCase):
 class Away(Case):
     async def test_a_site_that_was_away_gets_the_ranges_in_which_it_lacks_something(self) -> None:
         bus, operations = Bus(), [made(count) for count in range(1, 101)]
-        one, two = [await self.enterAsyncContext(Here(site=number)) for number in (1, 3)]
+        one, two = [await self.enterAsyncContext(Here()) for _ in range(2)]
         first, second = bus.site(one), bus.site(two)
         await bus.give(first, message_of(first, *operations))
         await bus.give(second, message_of(second, *(each for each in operations if each.stamp[0] not in (15, 77))))
@@ -72,7 +73,7 @@ class Away(Case):
             bus.seen.clear()
             await bus.rounds(4)
         sent = [each["stamp"][0] for message in bus.seen if message.topic.endswith("operations")
-                for each in json.loads(message.payload)["operations"]]
+                for each in json.loads(message.payload.partition(b"\n")[2])["operations"]]
         # Each site sends its own operations of the ranges that differ, cut where the other one cuts.
         self.assertTrue({15, 77} <= {*sent} <= {*range(11, 23), *range(71, 83)}, sorted(sent))
         self.assertLessEqual(len(sent), 2 * 2 * 12)
@@ -81,18 +82,18 @@ class Away(Case):
 
     async def test_nobody_gets_a_second_piece_before_the_next_announcement(self) -> None:
         bus = Bus()
-        here = await self.enterAsyncContext(Here(site=1))
+        here = await self.enterAsyncContext(Here())
         site = bus.site(here)
         await bus.give(site, message_of(site, *(made(count) for count in range(1, 20))))
         runs = [f"{number:x}" for number in range(1, 9)]
 
         async def ask() -> int:
             bus.sent.clear()
-            for folder in runs * 3:
-                said: dict[str, Any] = {"folder": folder, "run": folder, "site": 2, "road": site._road, "form": 3}
-                await site._receive("road/sites", folder, json.dumps(said).encode())
-                body = json.dumps({"folder": folder, "form": 3, "sum": "0", "ranges": [[None, "0"]], "timeline": ""}).encode()
-                await site._receive(f"road/{site._road}/sum", folder, body)
+            for run in runs * 3:
+                said = {"form": 4, "site": "east-00000000", "host": "there", "road": site._road, "count": 0}
+                await site._receive("road/sites", run, json.dumps(said).encode())
+                body = json.dumps({"form": 4, "sum": "0", "ranges": [[None, "0"]], "timeline": ""}).encode()
+                await site._receive(f"road/{site._road}/sum", run, body)
             return sum(one.topic.endswith("operations") for one in bus.sent)
         self.assertEqual(await ask(), 1)
         self.assertEqual(await ask(), 0)

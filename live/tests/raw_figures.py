@@ -1,17 +1,18 @@
-"""Compute the figures of two roads with numpy, from the cars of each step alone, and make random roads for tests of figures."""
+"""Compute the figures of two roads from the cars of each step alone, and make random roads for tests of figures."""
 from __future__ import annotations
 
+import functools
 import random
+import statistics
 from typing import Any, Sequence
-
-import numpy as np
 
 from server.journal.records import read_plan_line
 from zegdrut import RoadLab
 
-Array = np.ndarray[Any, Any]
 STEPS = 420
 LONG = 200_000  # steps of a run that shows what a chance admits
+Wanted = dict["tuple[str, int | None, int | None]", "list[float | None]"]
+"""By key, inlet and detector: a figure before and after a change, and the difference."""
 
 
 def random_plan(chance: random.Random) -> dict[str, Any]:
@@ -24,13 +25,13 @@ def random_plan(chance: random.Random) -> dict[str, Any]:
             "detectors": sorted(chance.sample(range(10, length - 15), 3)), "replicas": ["road"]}
 
 
-def random_shapes(plan: dict[str, Any], chance: random.Random) -> list[list[Any]]:
+def random_shapes(plan: dict[str, Any], chance: random.Random, steps: int = STEPS) -> list[list[Any]]:
     """Return random shapes of all kinds, with an end or without."""
     found = []
     for kind, there in (("limit", len(plan["zones"])), ("slow", len(plan["zones"])), ("start", len(plan["zones"])),
                         ("block", plan["length"] - 1), ("inflow", len(plan["inlets"])), ("watch", 3)):
         for _ in range(chance.choice([0, 1, 1, 2])):
-            first, begin = chance.randrange(there), chance.randrange(1, STEPS)
+            first, begin = chance.randrange(there), chance.randrange(1, steps)
             last = first if kind in ("inflow", "watch") else min(there - 1, first + chance.randrange(3))
             end = None if kind != "block" and chance.random() < 0.3 else begin + chance.randrange(20, 200)
             value = {"limit": chance.randrange(1, 4), "block": 1, "watch": 0, "inflow": chance.randrange(0, 30_000)}.get(
@@ -40,74 +41,94 @@ def random_shapes(plan: dict[str, Any], chance: random.Random) -> list[list[Any]
 
 
 class Run:
-    """The replies to `cars` at each step: for each car its cell and speed in each row, -1 while it is not on the road."""
+    """The replies to `cars` at each step: when each car entered, passed each detector and left, and in which rows it was on the road."""
 
     def __init__(self, plan: dict[str, Any], edits: Sequence[Any], steps: int) -> None:
         self.plan, self.edits = plan, edits
+        self.rows: list[int] = []  # the number of cars in each row
+        self.seen: dict[int, tuple[int, int]] = {}  # by car: the first row that has it, and the last one
+        self.left: dict[int, int] = {}  # by car: the step in which it left
+        self.passed: list[dict[int, int]] = [{} for _ in plan["detectors"]]  # by car: the step in which it passed
+        self.speeds: list[dict[int, int]] = [{} for _ in plan["detectors"]]
         with RoadLab(read_plan_line(plan)) as lab:
             if edits:
                 lab.ask({"import": {"at": "road", "edits": list(edits), "form": 2}})
             lab.command("advance", "road", to=steps)
-            rows: list[Any] = [lab.command("cars", "road", step=step)["cars"] for step in range(steps + 1)]
-        numbers = sorted({number for row in rows for number, _, _ in row})
-        self.numbers = np.array(numbers, dtype=int)
-        place = {number: index for index, number in enumerate(numbers)}
-        self.cells, self.speeds = (np.full((steps + 1, len(numbers)), -1) for _ in range(2))
-        for step, row in enumerate(rows):
-            for number, cell, speed in row:
-                self.cells[step, place[number]], self.speeds[step, place[number]] = cell, speed
-        self.entries, self.inlets = self.numbers // 16, self.numbers % 16
-        # Where each car is before a step: at its inlet, if it enters in this step.
-        self.before = self.cells[:-1].copy()
-        starts = np.array([cell for cell, _ in plan["inlets"]])[self.inlets] if len(numbers) else self.inlets
-        self.before[self.entries, np.arange(len(numbers))] = starts
+            before: dict[int, int] = {}
+            for row in range(steps + 1):
+                cars: Any = lab.command("cars", "road", step=row)["cars"]
+                before = self.read(row, before, cars)
 
-    def left(self) -> Array:
-        """Return the step in which each car leaves; for a car that does not leave, a step after the last one."""
-        gone = (self.cells[:-1] >= 0) & (self.cells[1:] < 0)
-        found: Array = np.where(gone.any(axis=0), gone.argmax(axis=0), 1 << 30)
-        return found
+    def read(self, row: int, before: dict[int, int], cars: Sequence[tuple[int, int, int]]) -> dict[int, int]:
+        """Read a row, which the step `row` - 1 has made. Return the cell of each car."""
+        self.rows.append(len(cars))
+        for number, cell, speed in cars:
+            start = before.get(number, self.plan["inlets"][number % 16][0])  # before its step of entry a car is at its inlet
+            self.seen[number] = self.seen.get(number, (row, row))[0], row
+            for detector, site in enumerate(self.plan["detectors"]):
+                if start < site <= cell:
+                    self.passed[detector][number], self.speeds[detector][number] = row - 1, speed
+        now = {number: cell for number, cell, _ in cars}
+        self.left.update((number, row - 1) for number in before if number not in now)
+        return now
 
-    def passed(self, site: int) -> Array:
-        """Return the step in which each car passes a cell; for a car that does not pass it, a step after the last one."""
-        now = np.where((self.before >= 0) & (self.cells[1:] < 0), 1 << 20, self.cells[1:])
-        crossed = (self.before >= 0) & (self.before < site) & (now >= site)
-        found: Array = np.where(crossed.any(axis=0), crossed.argmax(axis=0), 1 << 30)
-        return found
+    def arrivals(self) -> list[dict[int, int]]:
+        """Return, for each detector and last for the road's end, the step in which each car arrives there."""
+        return [*self.passed, self.left]
 
-    def arrivals(self) -> list[Array]:
-        return [*map(self.passed, self.plan["detectors"]), self.left()]
+    def seconds(self, number: int, first: int, last: int) -> int:
+        """Return the rows of a window that have a car."""
+        begin, end = self.seen[number]
+        return max(min(end, last) - max(begin, first + 1) + 1, 0)
 
-    def on(self, detector: int, first: int, last: int) -> Array:
+    @functools.cached_property
+    def came(self) -> list[list[int] | None]:
+        """Return the steps in which cars arrive at each inlet: at the first one as if it were alone on a long road, at a ramp as on the road
+        with its demand alone. None: works do not hold back a ramp, or cars of the main road cannot enter even without works."""
+        plan, steps = self.plan, len(self.rows) - 1
+        of_demand = [edit for edit in self.edits if edit[0] == "inflow" or edit[0] == "start" and edit[2] == 0]
+        here = [edit for edit in of_demand if edit[1] == 0 or edit[0] == "start"]
+        alone = Run({**plan, "length": 400, "zones": plan["zones"][:1] * 20, "inlets": plan["inlets"][:1], "detectors": []}, here, steps)
+        free = Run({**plan, "detectors": []}, of_demand, steps)
+        entries = [[sorted(number // 16 for number in run.seen if number % 16 == inlet) for inlet in range(len(plan["inlets"]))] for run in (alone, free)]
+        is_free = entries[0][0] == entries[1][0] and len(of_demand) < len(self.edits)
+        return [entries[0][0], *(each if is_free else None for each in entries[1][1:])]
+
+    def on(self, detector: int, first: int, last: int) -> list[bool]:
         """Return whether a detector is on in each step of a window."""
         watch = sorted((edit[2], edit[-1]) for edit in self.edits if edit[:2] == ["watch", detector] and edit[-1] is not None)
-        found: Array = np.array([next((value for begin, value in reversed(watch) if begin <= step), 1) for step in range(first, last)], dtype=bool)
-        return found
+        return [bool(next((value for begin, value in reversed(watch) if begin <= step), 1)) for step in range(first, last)]
 
     def detector(self, detector: int, first: int, last: int) -> dict[str, Any]:
         """Return what a detector counts in a window."""
-        is_on, steps = self.on(detector, first, last), self.passed(self.plan["detectors"][detector])
-        seen = np.array([first <= step < last and bool(is_on[step - first]) for step in steps], dtype=bool)
-        speeds = self.speeds[1:][steps[seen], np.flatnonzero(seen)].sum()
-        cars, on = int(seen.sum()), int(is_on.sum())
-        return {"cars": cars, "speeds": int(speeds), "flow": cars * 3_600 / on if on else None,
-                "speed": float(speeds / cars * 27) if cars else None, "on": on}
+        is_on = self.on(detector, first, last)
+        speeds = [self.speeds[detector][number] for number, step in self.passed[detector].items() if first <= step < last and is_on[step - first]]
+        cars, on = len(speeds), sum(is_on)
+        return {"cars": cars, "speeds": sum(speeds), "flow": cars * 3_600 / on if on else None,
+                "speed": sum(speeds) / cars * 27 if cars else None, "on": on}
 
     def hours(self, first: int, last: int) -> float:
-        return float((self.cells[first + 1:last + 1] >= 0).sum() / 3_600)
+        return sum(self.rows[first + 1:last + 1]) / 3_600
 
-    def admitted(self, first: int, last: int) -> list[int]:
-        seen = (self.entries >= first) & (self.entries < last)
-        return [int((seen & (self.inlets == inlet)).sum()) for inlet in range(len(self.plan["inlets"]))]
+    def admitted(self, first: int, last: int) -> list[float]:
+        return [float(sum(number % 16 == inlet and first <= number // 16 < last for number in self.seen))
+                for inlet in range(len(self.plan["inlets"]))]
 
-    def travel(self, first: int, last: int) -> list[list[float | None]]:
-        """Return, for each detector and the road's end, the number of cars that arrive in a window, and their mean travel time in
-        seconds."""
-        found: list[list[float | None]] = []
-        for steps in self.arrivals():
-            seen = (steps >= first) & (steps < last)
-            times = (steps - self.entries)[seen]
-            found.append([int(seen.sum()), float(times.mean()) if len(times) else None])
+    def travel(self, place: int, inlet: int, first: int, last: int) -> float | None:
+        """Return the mean travel time in seconds of the cars from an inlet that arrive at a place in a window: at a detector, or at the
+        road's end, which follows the detectors."""
+        times = [step - number // 16 for number, step in self.arrivals()[place].items() if number % 16 == inlet and first <= step < last]
+        return statistics.mean(times) if times else None
+
+    def by_entry(self, first: int, last: int) -> dict[str, list[list[float | None]]]:
+        """Return, by the first step of each minute of entry, the cars that arrived at each detector and at the road's end, and their mean
+        travel time in seconds."""
+        found: dict[str, list[list[float | None]]] = {}
+        for minute in range(first, last, 60):
+            each = [[step - number // 16 for number, step in steps.items() if minute <= number // 16 < min(minute + 60, last) and step < last]
+                    for steps in self.arrivals()]
+            if any(each):
+                found[str(minute)] = [[len(times), statistics.mean(times) if times else None] for times in each]
         return found
 
     def chance_at(self, inlet: int, step: int) -> int:
@@ -152,13 +173,37 @@ def flow(plan: dict[str, Any], chances: tuple[int, ...], inlet: int, start: int 
 def compare(before: Run, after: Run, first: int, last: int) -> dict[str, Any]:
     """Return the cost of the change from one road to another in a window: the delay in vehicle hours, and for each place the cars
     that both roads have and their mean delay."""
-    both, ones, others = np.intersect1d(before.numbers, after.numbers, return_indices=True)
-    time = [(run.cells[first + 1:last + 1] >= 0).sum(axis=0)[index] for run, index in ((before, ones), (after, others))]
-    is_early = both // 16 < last
+    both = before.seen.keys() & after.seen.keys()
+    delay = sum(after.seconds(number, first, last) - before.seconds(number, first, last) for number in both if number // 16 < last)
     later: list[list[float | None]] = []
-    for one, other in zip(before.arrivals(), after.arrivals()):
-        one, other = one[ones], other[others]
-        seen = (np.maximum(one, other) < last) & (both // 16 >= first)
-        more = (other - one)[seen]
-        later.append([int(seen.sum()), float(more.mean()) if len(more) else None])
-    return {"delay_hours": float((time[1] - time[0])[is_early].sum() / 3_600), "later": later}
+    for early, late in zip(before.arrivals(), after.arrivals()):
+        more = [late[number] - early[number] for number in early.keys() & late.keys()
+                if max(early[number], late[number]) < last and number // 16 >= first]
+        later.append([len(more), statistics.mean(more) if more else None])
+    return {"delay_hours": delay / 3_600, "later": later}
+
+
+def figures_of(before: Run, after: Run, first: int, last: int) -> Wanted:
+    """Return the figures of two roads in a window but demand and lost demand."""
+    plan, cost = before.plan, compare(before, after, first, last)
+    found: Wanted = {("delay", None, None): [None, None, cost["delay_hours"]]}
+
+    def both(key: str, inlet: int | None, detector: int | None, values: list[float | None]) -> None:
+        early, late = values
+        found[key, inlet, detector] = [early, late, None if early is None or late is None else late - early]
+    both("hours", None, None, [run.hours(first, last) for run in (before, after)])
+    both("admitted", None, None, [sum(run.admitted(first, last)) for run in (before, after)])
+    places = [*range(len(plan["detectors"])), None]
+    for inlet, (cell, _) in enumerate(plan["inlets"]):
+        if len(plan["inlets"]) > 1:
+            both("admitted at", inlet, None, [run.admitted(first, last)[inlet] for run in (before, after)])
+        for place, detector in enumerate(places):
+            if detector is None or cell < plan["detectors"][detector]:
+                both("travel", inlet, detector, [run.travel(place, inlet, first, last) for run in (before, after)])
+    for place, detector in enumerate(places):
+        found["delay at", None, detector] = [None, None, cost["later"][place][1]]
+        if detector is not None:
+            counts = [run.detector(detector, first, last) for run in (before, after)]
+            for key in ("cars", "flow", "speed", "on"):
+                both(key, None, detector, [one[key] for one in counts])
+    return found

@@ -12,7 +12,7 @@ from typing import Any, Callable, Sequence, cast
 from crashes import numbers
 from oracle import counting_operations
 from server.tabs.client import RefusedReply, Seat
-from server.model.operations import Operation, Shape, Stamp, is_line
+from server.model.operations import Operation, Shape, Stamp
 from zegdrut import Kind, RoadLab
 from running import ALL, SMALL, Case, Server, until
 from server.journal.records import read_plan_line
@@ -34,6 +34,7 @@ class Reader:
     def __init__(self, server: Server, seat: Seat, chance: random.Random, made: dict[Stamp, Operation]) -> None:
         self.server, self.seat, self.chance, self.made = server, seat, chance, made
         self.held: set[Stamp] = set()
+        self.own: list[Stamp] = []
         self.private: list[Stamp] = []  # own operations that are not shared, in their order
         self.old: set[Stamp] = set()  # of these what a server that was started again need not have
         self.count = 0
@@ -43,14 +44,12 @@ class Reader:
         shapes: dict[Stamp, Shape | None] = {}
         heights: dict[Stamp, Stamp] = {}
         for one in counting_operations(self.made[stamp] for stamp in self.held):
-            for name, shape in one.sets.items():
-                if is_line(name):
-                    shapes.setdefault(name, shape)
-            for name, height in one.heights.items():
-                if is_line(name):
-                    heights.setdefault(name, height)
-        names = {name for stamp in self.held for name in self.made[stamp].names if is_line(name)}
-        return {name: (heights.get(name, name), shapes.get(name)) for name in names}
+            if one.line is not None and (one.shape is not None or not one.top):
+                shapes.setdefault(one.line, one.shape)
+            if one.line is not None and one.top:
+                heights.setdefault(one.line, one.stamp)
+        names = {self.made[stamp].line for stamp in self.held}
+        return {name: (heights.get(name, name), shapes.get(name)) for name in names if name is not None}
 
     def standing(self) -> list[tuple[Stamp, Stamp, Shape]]:
         """Return height, name and shape of the layers in force, the highest first."""
@@ -65,7 +64,7 @@ class Reader:
             try:
                 if what < 0.3:
                     shape = self.shape()
-                    await self.makes("gesture", lambda stamp: Operation(stamp, {stamp: Shape(*shape)}), shape=shape)
+                    await self.makes("gesture", lambda stamp: Operation(stamp, stamp, Shape(*shape)), shape=shape)
                 elif what < 0.75:
                     await self.acts_on([*self.layers()])
                 elif what < 0.87:
@@ -87,14 +86,15 @@ class Reader:
         """Send a command, and note which operation it made."""
         key = f"{self.seat.at}-{self.count}"
         try:
-            count, number = (await self.seat.ask(verb, key=key, **fields))["stamp"]
+            count, name = (await self.seat.ask(verb, key=key, **fields))["stamp"]
         except RefusedReply as fault:
             if fault.reply["refused"] == NOT_THERE and self.is_forgotten(fields.get("layer"), fields.get("stamp")):
                 return
             raise
-        self.made[count, number] = makes((count, number))
-        self.held.add((count, number))
-        self.private.append((count, number))
+        self.made[count, name] = makes((count, name))
+        self.held.add((count, name))
+        self.own.append((count, name))
+        self.private.append((count, name))
 
     def is_forgotten(self, name: Stamp | None, stamp: Stamp | None) -> bool:
         """Return whether a line or an operation may have been forgotten: it was private, and was withdrawn long ago."""
@@ -111,26 +111,24 @@ class Reader:
             new = self.shape()
             if shape is not None and self.chance.random() < 0.5:  # drag an end
                 new = [*shape[:4], shape[3] + self.chance.randrange(1, 40), shape[5]]
-            await self.makes("gesture", lambda stamp: Operation(stamp, {name: Shape(*new)}, {} if shape else {name: stamp}),
-                             layer=name, shape=new)
+            await self.makes("gesture", lambda stamp: Operation(stamp, name, Shape(*new), top=not shape), layer=name, shape=new)
         elif what == "withdraw":
-            await self.makes("gesture", lambda stamp: Operation(stamp, {name: None}), layer=name, shape=None)
+            await self.makes("gesture", lambda stamp: Operation(stamp, name), layer=name, shape=None)
         elif what == "top":
-            await self.makes("gesture", lambda stamp: Operation(stamp, {}, {name: stamp}), layer=name, top=True)
+            await self.makes("gesture", lambda stamp: Operation(stamp, name, top=True), layer=name, top=True)
         else:
             old = self.made[self.chance.choice(sorted(self.held))]
             await self.makes(what, lambda stamp: Operation(stamp, undoes=old.stamp) if what == "undo" else Operation(
-                stamp, old.sets, {one: stamp for one in old.names}), stamp=old.stamp)
+                stamp, old.line, old.shape, old.shape is not None or old.top), stamp=old.stamp)
 
     async def shares(self) -> None:
-        own = [stamp for stamp in self.held if stamp[1] == self.seat.welcome["number"]]
-        some = [one for one in own if self.chance.random() < 0.5][:50]
+        some = [one for one in self.own if self.chance.random() < 0.5][:50]
         await self.sends(**({} if self.chance.random() < 0.6 else {"stamps": some}))
 
     async def sends(self, **some: Any) -> int:
         """Share operations. Return how many."""
         said = await self.seat.ask("send", name="shared", **some)
-        given = {(count, number) for count, number in said["stamps"]}
+        given = {(count, name) for count, name in said["stamps"]}
         self.private = [stamp for stamp in self.private if stamp not in given]
         return len(given)
 
@@ -141,7 +139,7 @@ class Reader:
             after = await self.rows("after")
         said = await self.seat.ask("take", message="shared")
         assert said["size"] == len(said["changes"]), "the reply lists all that was taken"
-        self.held.update((count, number) for count, number in (one["stamp"] for one in said["changes"]))
+        self.held.update((count, name) for count, name in (one["stamp"] for one in said["changes"]))
         if looked is not None and looked == said["size"]:
             assert await self.rows(self.seat.at) == after, "the road is not what was looked at first"
 
@@ -162,7 +160,7 @@ class Reader:
                 for step in range(LAST + 1)}
         with RoadLab(read_plan_line({**PLAN, "replicas": ["A"]})) as lab:
             for (kind, index, step), top in tops.items():
-                value = top[1][5] if top else BASE[kind]
+                value: Any = top[1][5] if top else BASE[kind]
                 before = tops.get((kind, index, step - 1)) if step else None
                 if value != (before[1][5] if before else BASE[kind]):
                     lab.edit("A", (cast(Kind, kind), index), step, value)

@@ -1,4 +1,4 @@
-"""Let robots make random shapes and raw edits, change or undo them, and share and take, on one server or on several with a
+"""Let robots make random shapes, change or undo them, and share and take, on one server or on several with a
 broker. At the end every road equals, row by row, one that a program simulates from the values in force at each step."""
 from __future__ import annotations
 
@@ -19,19 +19,8 @@ RUNS, ACTS = (20 if ALL else 3), 100
 SITE_RUNS = 12 if ALL else 3  # runs of several servers
 PLAN: dict[str, Any] = {**SMALL, "length": 60, "zones": [[4, 9_000]] * 3, "inlets": [[0, 30_000], [25, 9_000]], "detectors": [20, 45]}
 OBJECTS = [("limit", 3, 5), ("slow", 3, 40_000), ("block", 60, 1), ("inflow", 2, 65_536), ("watch", 2, 1),
-           ("start", 3, 50_000)]
+           ("start", 3, 50_000), ("capacity", 3, 0)]
 ORACLE = oracle_of(PLAN, LAST + 1)
-
-
-def random_edits(chance: random.Random) -> list[list[Any]]:
-    """Return edits of few objects and steps, so that they collide."""
-    edits: dict[tuple[str, int, int], list[Any]] = {}
-    for _ in range(chance.randrange(1, 6)):
-        kind, number_of_objects, most = chance.choice(OBJECTS)
-        index, step = chance.randrange(min(number_of_objects, 3)), chance.randrange(0, LAST, 10)
-        value = None if chance.random() < 0.1 else chance.randint(0, most)
-        edits[kind, index, step] = [kind, index, step, value]
-    return list(edits.values())
 
 
 def random_shape(chance: random.Random) -> list[Any]:
@@ -39,7 +28,8 @@ def random_shape(chance: random.Random) -> list[Any]:
     kind, number_of_objects, most = chance.choice(OBJECTS)
     first, begin = chance.randrange(number_of_objects), chance.randrange(0, LAST, 5)
     end = None if chance.random() < 0.2 else begin + chance.randrange(1, 40)
-    return [kind, first, min(number_of_objects - 1, first + chance.randrange(12)), begin, end, chance.randint(0, most)]
+    value = [900, chance.randint(0, 5), chance.randrange(40_000), chance.randrange(50_000)] if kind == "capacity" else chance.randint(0, most)
+    return [kind, first, min(number_of_objects - 1, first + chance.randrange(12)), begin, end, value]
 
 
 class Acts(Case):
@@ -48,10 +38,8 @@ class Acts(Case):
     async def act(self, seat: Seat, chance: random.Random, key: str) -> None:
         what = chance.random()
         try:
-            if what < 0.25:
+            if what < 0.4:
                 await seat.ask("gesture", key=key, shape=random_shape(chance))
-            elif what < 0.4:
-                await seat.ask("gesture", key=key, edits=random_edits(chance))
             elif what < 0.75:
                 await self.act_on(seat, chance, key)
             elif what < 0.85:
@@ -71,7 +59,7 @@ class Acts(Case):
         line = chance.choice([*held])
         what = chance.choice(["change", "change", "top", "withdraw", "undo", "again"])
         if what in ("undo", "again"):
-            stamp = chance.choice([one["stamp"] for one in line.get("operations", [])] or [(1, 1)])
+            stamp = chance.choice([one["stamp"] for one in line.get("operations", [])] or [(1, "M47dx6_hno3g_1R9IF57TQ")])
             await seat.ask(what, key=key, stamp=stamp)
         else:
             of: dict[str, dict[str, Any]] = {"change": {"shape": random_shape(chance)}, "top": {"top": True}, "withdraw": {"shape": None}}
@@ -116,7 +104,7 @@ class Robots(Acts):
         for seed in range(SITE_RUNS):
             chance = random.Random(seed)
             broker = self.broker(keeps=bool(seed % 2))
-            sites = [self.server("--broker", broker.address, "--site", str(number + 1), plan=PLAN)
+            sites = [self.server("--broker", broker.address, "--site", f"s{number}", plan=PLAN)
                      for number in range(2 + seed % 3)]
             seats = [(site, await self.enterAsyncContext(site.seat(f"{name} of {number}")))
                      for number, site in enumerate(sites) for name in ("Ada", "Ben")]
@@ -153,7 +141,7 @@ def operations(entries: list[dict[str, Any]], at: str) -> list[Operation]:
     for entry in entries:
         kind, value = next(iter(entry.items()))
         if kind == "made":
-            own.setdefault(value["seat"], []).append(read_operation(value["operation"]))
+            own.setdefault(value["seat"], []).append(read_operation({"site": entries[0]["lab"]["site"], **value["operation"]}))
         elif kind == "share":
             shared += [one for one in own[value["seat"]] if list(one.stamp) in value["stamps"]]
         elif kind == "came":
@@ -163,4 +151,4 @@ def operations(entries: list[dict[str, Any]], at: str) -> list[Operation]:
     if at == "shared":
         return shared
     seat = int(at.removeprefix("seat"))
-    return [*{one.text(): one for one in own.get(seat, []) + shared[:upto.get(seat, 0)]}.values()]
+    return [*{one.stamp: one for one in own.get(seat, []) + shared[:upto.get(seat, 0)]}.values()]

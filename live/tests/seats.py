@@ -11,11 +11,9 @@ from faulty import Here, soon
 from running import Case, new_folder
 from server.tabs import verbs
 from server.tabs.asked import CommandFields
-from server.model.operations import edit
 from server.tabs.refusals import Refused
 from server.tabs.seating import SteadyClock
 from server.journal.lab import Lab
-from server.journal.state import size_of_part
 
 
 def copied(folder: Path) -> Path:
@@ -86,11 +84,6 @@ class Seats(Case):
             said = await self.here.ask(ada, "gesture", key=key, shape=["limit", 2, 2, 7, None, 1])
             self.assertTrue(said["again"])
 
-    async def test_large_operations_are_applied_in_smaller_groups(self) -> None:
-        small, large = (edit((1, 65), {("block", cell, 5): 1 for cell in range(many)}) for many in (1, 1_200))
-        for some, size in (([small] * 250, 100), ([large] * 3, 1), ([small, large], 1), ([small] * 3, 3)):
-            self.assertEqual(size_of_part(some), size)
-
     async def test_one_of_two_tabs_that_take_a_seat_over_gets_it(self) -> None:
         index, = await self.here.join("Ada")
         self.here.keeper.connected.discard(index)
@@ -159,7 +152,7 @@ class Seats(Case):
             self.assertEqual([line["who"], line["operations"][0]["who"]], ["Ada", "Ada"])
 
     async def test_who_gets_a_freed_seat_undoes_nothing_of_the_one_who_left(self) -> None:
-        """The journal says what a seat made, not the number in a stamp."""
+        """The journal says what a seat made."""
         async with Here() as here:
             await here.join("Ada")
             await here.ask(1, "gesture", key="a", shape=["limit", 1, 1, 10, None, 3])

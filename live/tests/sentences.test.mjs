@@ -6,7 +6,7 @@ import {test} from "node:test";
 
 import {DayClock} from "../page/dayclock.mjs";
 import {decodeChange, decodeShape} from "../page/decoding.mjs";
-import {editsText, placesText, shapeText, takenZonesText, thingText, valueText} from "../page/sentences.mjs";
+import {placesText, shapeText, takenZonesText, thingText, valueText} from "../page/sentences.mjs";
 
 const PLAN = JSON.parse(readFileSync(new URL("../plan.json", import.meta.url), "utf8"));
 // With a chance of 0.588, inlet 0 admits 1,500 cars per hour, and 1,250 from step 600 on. Inlet 1 is being measured.
@@ -29,6 +29,7 @@ test("values are written with their units", () => {
   assert.equal(text("watch", 0), "Detector off");
   assert.equal(text("slow", 16384), "Slowing 25 %");
   assert.equal(text("start", 32768), "Slow to start 50 %");
+  assert.equal(text("capacity", 900), "Capacity 900 cars/h");
 });
 
 test("a demand is in cars per hour: what was asked for, otherwise what the inlet admits then", () => {
@@ -38,13 +39,13 @@ test("a demand is in cars per hour: what was asked for, otherwise what the inlet
                "Demand 1,500 cars/h, at 0 km, 0:09:59\u20130:20:00");
   assert.equal(shapeText(ROAD, decodeShape(["inflow", 1, 1, 599, 1200, 32768])),
                "Demand that is being measured, at 1.5 km, 0:09:59\u20130:20:00");
-  const change = decodeChange({name: [1, 65], kind: "inflow", shape: ["inflow", 1, 1, 600, 900, 14000],
-    demand: 447.69, shown: [["inflow", 1, 1, 600, 900, 14000, null]], operations: [], edits: []});
+  const change = decodeChange({name: [1, "h"], kind: "inflow", shape: ["inflow", 1, 1, 600, 900, 14000],
+    demand: 447.69, shown: [["inflow", 1, 1, 600, 900, 14000, null]], operations: []});
   for (const shape of [change.shape, ...change.shown]) {
     assert.equal(shapeText(ROAD, shape), "Demand 448 cars/h, at 1.5 km, 0:10:00\u20130:15:00");
     assert.equal(thingText(ROAD, shape), "demand 448 cars/h");
   }
-  assert.equal(decodeChange({...change, name: [1, 65], shape: ["inflow", 1, 1, 600, 900, 14000],
+  assert.equal(decodeChange({...change, name: [1, "h"], shape: ["inflow", 1, 1, 600, 900, 14000],
     demand: "many"}).shape.demand, undefined);
 });
 
@@ -55,14 +56,4 @@ test("a shape is described in a few words", () => {
   assert.equal(text("slow", 0, 0, 0, null, 16384), "slowing 25 %");
   assert.equal(text("inflow", 0, 0, 0, null, Math.round(0.588 * 65536)), "demand 1,500 cars/h");
   assert.equal(text("watch", 0, 0, 0, null, 0), "detector switched off");
-});
-
-const editsOf = (...edits) => decodeChange({name: [1, 65], shown: [], operations: [], edits}).edits;
-
-test("edits without a note are described by the first ones, and how many more there are", () => {
-  assert.equal(editsText(ROAD, editsOf(["limit", 11, 5400, null])),
-               "Limit withdrawn, 4.125\u20134.5 km, from 1:30:00 on");
-  const edits = editsOf(["block", 100, 600, 1], ["block", 101, 600, 1], ["block", 100, 700, 0]);
-  assert.equal(editsText(ROAD, edits),
-               "Closed 0.75\u20130.765 km, from 0:10:00 on, and 1 more edit");
 });

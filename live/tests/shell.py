@@ -13,9 +13,11 @@ import sys
 import time
 import unittest
 from typing import Any
+from unittest import mock
 
 from oracle import by_rows, oracle_of
 from running import LIVE, PATIENCE, SMALL, Broker, Case, Server, end, new_folder, started
+from server import explain_missing
 from server.figures.curves import Curve
 from server.journal.records import read_plan_line
 from server.model.reading import read_operation
@@ -24,6 +26,21 @@ from zegdrut.roads.clock import Clock
 from zegdrut.program.wire import WrittenEdit
 
 PLAN = read_plan_line(SMALL)
+
+
+class Missing(unittest.TestCase):
+    """A Python without the modules of Debian's packages."""
+
+    def test_the_python_is_named_that_lacks_a_module(self) -> None:
+        fault = ModuleNotFoundError("No module named 'aiohttp'", name="aiohttp")
+        self.assertEqual(explain_missing(fault), "python3-aiohttp is not installed: apt-get install python3-aiohttp")
+        with mock.patch("sys.executable", "/usr/bin/env"), mock.patch("sys.argv", ["live/road", "Cron", "seats"]):
+            self.assertEqual(explain_missing(fault), "/usr/bin/env does not have the module aiohttp. /usr/bin/python3 has it, with the package "
+                             "python3-aiohttp: /usr/bin/python3 live/road ..")
+
+    def test_a_module_of_ones_own_is_not_a_package(self) -> None:
+        with self.assertRaises(ModuleNotFoundError):
+            explain_missing(ModuleNotFoundError("No module named 'server.words'", name="server.words"))
 
 
 class Written(unittest.TestCase):
@@ -78,6 +95,18 @@ class Shell(Case):
         self.assertNotIn("Traceback", said.decode())
         return process.returncode or 0, out.decode().strip(), said.decode().strip()
 
+    async def stamp(self, *words: str) -> str:
+        """Return the stamp that a command prints."""
+        status, out, said = await self.road(*words)
+        self.assertRegex(out, "^[0-9]+[.][A-Za-z0-9_-]{22}$", (words, said))
+        self.assertEqual((status, said), (0, ""))
+        return out
+
+    async def edits(self, at: str) -> list[list[Any]]:
+        """Return the edits in force on a road of the seat `cron`."""
+        held = json.loads((await self.road("cron", "ask", f'{{"scenario":{{"at":"{at}"}}}}'))[1])["edits"]
+        return [[*one[:3], one[5]] for one in held if one[5] is not None]
+
     async def test_names_of_64_characters_in_any_script_have_their_own_seats(self) -> None:
         names = ["a b", "a_b", "a/b", "../a", "\U00013000" * 64, "\U00013000" * 63 + "b", "語" * 64]
         for _ in range(2):  # the second time with the stored key
@@ -92,20 +121,32 @@ class Shell(Case):
             self.assertNotIn("refused", lines)
 
     async def test_a_script_takes_part(self) -> None:
-        self.assertEqual(await self.road("cron", "edit", "limit", "2", "50", "1"), (0, "[1, 65]", ""))
+        first = await self.stamp("cron", "edit", "limit", "2", "50", "1")
         self.assertEqual((await self.road("cron", "share", "night"))[:2], (0, "shared 1 change"))
-        self.assertEqual(await self.road("Ada", "edit", "limit", "0", "50", "4"), (0, "[2, 66]", ""))
-        self.assertEqual(await self.road("Ada", "edit", "limit", "2", "50", "4"), (0, "[3, 66]", ""))
+        await self.stamp("Ada", "edit", "limit", "0", "50", "4", "80")
+        over = await self.stamp("Ada", "edit", "limit", "2", "60", "4")
         self.assertEqual((await self.road("Ada", "share"))[1], "shared 2 changes")
-        self.assertEqual((await self.road("cron", "take"))[1], "took 2 changes\nchanged: limit with stamp [1, 65], by Ada")
-        self.assertEqual(await self.road("cron", "withdraw", "limit", "2", "50"), (0, "[4, 65]", ""))
-        held = json.loads((await self.road("cron", "ask", '{"scenario":{"at":"shared"}}'))[1])["edits"]
-        self.assertEqual([[*one[:3], one[5]] for one in held], [["limit", 0, 50, 4], ["limit", 2, 50, 4]])
-        said = [await self.road("cron", *words) for words in (("out", "2"), ("in", "2"), ("out", "1"))]
-        self.assertEqual([status for status, _, _ in said], [0, 0, 1])
-        self.assertIn("site 1 cannot exclude itself", said[2][2])
+        self.assertEqual((await self.road("cron", "take"))[1], "took 2 changes\ncovered: limit 2, 1, from step 60 on, by Ada")
+        self.assertEqual(await self.edits("seat1"), [["limit", 0, 50, 4], ["limit", 0, 80, 5], ["limit", 2, 50, 1], ["limit", 2, 60, 4]])
+        await self.stamp("cron", "withdraw", over)
+        self.assertEqual(await self.edits("seat1"), [["limit", 0, 50, 4], ["limit", 0, 80, 5], ["limit", 2, 50, 1]])
+        await self.road("cron", "share")
+        async with self.a6.seat("Ben") as ben:
+            await ben.ask("take", message="shared")
+            count, name = first.split(".")
+            await ben.ask("gesture", key="k", layer=[int(count), name], shape=["limit", 2, 2, 50, None, 3])
+            await ben.ask("send", name="shared")
+        self.assertEqual((await self.road("cron", "take"))[1], f"took 1 change\nchanged: limit with stamp {first}, by Ben")
+        site = json.loads((self.a6.folder / "journal.jsonl").read_text().splitlines()[0])["lab"]["site"]
+        for words in (("out", "south-00000000"), ("in", "south-00000000")):
+            await self.stamp("cron", *words)
+        self.assertEqual((await self.road("cron", "out", site))[0], 1)
+        self.assertIn("cannot exclude itself", (await self.road("cron", "out", site))[2])
+        await self.stamp("cron", "edit", "limit", "4", "50", "4")
+        await self.road("cron", "share")
         self.assertEqual((await self.road("cron", "tell"))[:2], (0, "all shared changes came back from the broker"))
         self.here.kill()
+        await self.stamp("cron", "edit", "limit", "5", "50", "4")
         await self.road("cron", "share")
         status, _, why = await self.road("cron", "tell", PATIENCE="1")
         self.assertEqual((status, why.strip()), (1, "1 change has not come back from the broker, which is away"))
@@ -146,7 +187,7 @@ class Shell(Case):
         (self.a6.folder / "freeway.json").write_text('{"begin": "06:30"}', encoding="utf-8")
         said = [await self.road("cron", "put", *words) for words in (
             ("limit", "50", "0.2", "0.45", "6:40"), ("demand", "1200", "0", "06:45", "07:00"), ("demand", "1900", "0", "1"))]
-        self.assertEqual([(status, out.partition("] ")[2]) for status, out, _ in said], [
+        self.assertEqual([(status, out.partition(" ")[2]) for status, out, _ in said], [
             (0, "limit 54 km/h, km 0.15 to 0.45, from 06:40 on"), (0, "1200 cars/h, at km 0, 06:45 to 07:00"), (2, "")])
         self.assertIn("this inlet admits 0 to 1,7", said[2][2])
         async with self.a6.seat("Ada") as ada:
@@ -213,6 +254,23 @@ class Shell(Case):
         status, _, why = await self.road("Ada", "export", str(files[0]), LIVE=str(self.a6.folder))
         self.assertEqual((status, why), (1, f"{files[0]} exists already: remove it, or give another file"))
 
+    async def test_a_copied_folder_gets_a_site_of_its_own_while_no_server_runs_there(self) -> None:
+        folder = self.a6.folder
+        site = json.loads((folder / "journal.jsonl").read_text().splitlines()[0])["lab"]["site"]
+        stamp = await self.stamp("cron", "edit", "limit", "2", "50", "1")
+        status, _, why = await self.road("new-site", str(folder))
+        self.assertEqual((status, "another server is running" in why), (1, True))
+        self.a6.kill()
+        status, said, _ = await self.road("new-site", str(folder))
+        self.assertRegex(said, "^the site of this folder is now ")
+        moved = said.rpartition(" ")[2]
+        self.assertEqual((status, moved.rpartition("-")[0], moved == site), (0, site.rpartition("-")[0], False))
+        self.assertEqual((await self.road("new-site", str(new_folder())))[0], 1)
+        self.a6.start()
+        async with self.a6.seat("Ada") as ada:
+            self.assertEqual(ada.welcome["site"], moved)
+        await self.stamp("cron", "withdraw", stamp)
+
     async def test_the_clock_is_set_and_seats_are_listed(self) -> None:
         self.assertEqual(await self.road("cron", "clock", "0:10"), (0, "the clock is at 00:10", ""))
         self.assertEqual((await self.road("cron", "ask", '{"clock":{"to":700}}'))[0], 0)
@@ -222,7 +280,7 @@ class Shell(Case):
 
     async def test_six_commands_at_once_get_six_stamps(self) -> None:
         said = await asyncio.gather(*(self.road("cron", "edit", "limit", "2", str(step), "1") for step in range(6)))
-        self.assertEqual(sorted(json.loads(out) for _, out, _ in said), [[count, 65] for count in range(1, 7)])
+        self.assertEqual(sorted(int(out.partition(".")[0]) for _, out, _ in said), [*range(1, 7)])
 
     async def test_two_hundred_edits_after_an_advance_take_seconds(self) -> None:
         """The program does not run a long log again for each command."""
@@ -231,7 +289,8 @@ class Shell(Case):
         async with self.a6.seat("Ada") as ada:
             await ada.ask("advance", to=200)
             for number in range(200):
-                await ada.ask("edit", object=["limit", number % 6], step=number, value=number // 6 % 5)
+                shape = ["limit", number % 6, number % 6, number, None, number // 6 % 5]
+                await ada.ask("gesture", key=f"{number}", shape=shape)
             self.assertEqual(len((await ada.ask("scenario"))["edits"]), 200)
 
     async def test_faults_are_reported(self) -> None:
@@ -240,6 +299,10 @@ class Shell(Case):
                 (("cron", "edit", "limt", "2", "50", "1"), 1, "use `limit`"),
                 (("cron", "edit", "limit", "2", "50"), 2, "unknown command or wrong arguments"),
                 (("cron", "edit", "limit", "2", "x", "1"), 2, "is not a whole number"),
+                (("cron", "edit", "limit", "2", "50", "1", "60", "70"), 2, "unknown command or wrong arguments"),
+                (("cron", "edit", "limit", "2", "50", "1", "50"), 1, "a shape must end after step 50"), (("cron", "withdraw", "5"), 2, "write COUNT.HASH"),
+                (("cron", "withdraw", "5.M47dx6_hno3g_1R9IF57TQ"), 1, "holds no change"), (("cron", "withdraw", "5.x"), 1, "layer"),
+                (("cron", "out", "2"), 1, "site"), (("cron", "numbers"), 2, "unknown command or wrong arguments"),
                 (("cron", "ask", "nonsense"), 2, "write JSON"),
                 (("cron", "ask", '{"scenario":{"at":"cron"}}'), 1, 'here `at` must be "seat1" or "shared"'),
                 (("cron", "ask", '{"take":{"at":"shared","message":"shared"}}'), 1, 'here `at` must be "seat1"'),

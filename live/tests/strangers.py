@@ -1,45 +1,63 @@
-"""Test sites that have another site's number, a wrong clock or no key, or that replay messages."""
+"""Test sites whose folder is copied or restored, whose clock is wrong, that have no key, or that forge or repeat messages."""
 from __future__ import annotations
 
 import argparse
-import asyncio
+import errno
+import hmac
 import json
 import shutil
 import time
 import unittest
 from pathlib import Path
-from typing import Any, Iterator
+from typing import Any
 from unittest import mock
 
-from crashes import numbers
-from faulty import Bus, Here, Message, message_of, told
+from faulty import Bus, Disk, Here, Message, message_of, told
 from running import SMALL, Case, new_folder
-from server.sites import seals
-from server.journal import stamps
-from server.tabs import verbs
-from server.tabs.asked import CommandFields
-from server.tabs.refusals import Refused
+from server.sites import peers, seals
 from server.sites.floods import Floods
+from server.sites.peers import Peers
+from server.journal.copies import move_to_new_site
 from server.journal.journal import CannotStart
-from server.model.operations import About, Shape, edit, is_raw, put
-from server.journal.records import Came, Folder, read_plan_line
+from server.journal.naming import Counter
+from server.model.operations import About, Operation, Shape, Stamp, lift, put, undo
+from server.model.reading import Malformed, read_operation
 from server.sites.sites import Sites
-from server.journal.state import State
+from server.tabs.refusals import Refused
 
-DAY = 86_400_000  # milliseconds
+HOUR, DAY = 3_600_000, 86_400_000  # milliseconds
+NOW = 1_780_000_000_000  # milliseconds since 1970
+FAR, LEAP = 1 << 50, 1 << 24  # as in PROTOCOL.md: a count above the first may be this much above the greatest one of the shared road
+
+
+def limit(count: int, step: int, value: int = 3, site: str = "eve-00000000") -> Operation:
+    """Return an operation of another site that puts a limit in zone 2 from a step on."""
+    return put(count, Shape("limit", 2, 2, step, None, value), About("Eve", site=site))
 
 
 def steps(here: Here) -> list[int]:
-    """Return the steps of the raw edits that a shared road has."""
-    return sorted(name[2] for one in here.lab.state.shared.places for name in one.sets if is_raw(name))
+    """Return the steps at which the layers of a shared road begin."""
+    return sorted(one.shape.begin for one in here.lab.state.shared.places if one.shape is not None)
 
 
-class Strangers(Case):
+def stamps(here: Here) -> list[Stamp]:
+    return sorted(one.stamp for one in here.lab.state.shared.places)
+
+
+def announced(site: Sites, run: str, name: str, **more: Any) -> Message:
+    """Return the announcement of a server without a key."""
+    value = {"form": 4, "site": name, "host": "there", "road": site._road, "count": 0, **more}
+    return Message("road/sites", json.dumps({"run": run, "mac": ""}).encode() + b"\n" + json.dumps(value).encode())
+
+
+class Sited(Case):
+    """A test with sites in this process."""
+
     async def asyncSetUp(self) -> None:
         self.bus = Bus()
 
-    async def here(self, number: int, folder: Path | None = None, **more: Any) -> tuple[Here, Sites]:
-        here = await self.enterAsyncContext(Here(folder, site=number, **more))
+    async def here(self, name: str | None, folder: Path | None = None, **more: Any) -> tuple[Here, Sites]:
+        here = await self.enterAsyncContext(Here(folder, site=name, **more))
         return here, self.bus.site(here)
 
     async def shared(self, here: Here) -> list[Any]:
@@ -47,8 +65,12 @@ class Strangers(Case):
         edits: list[Any] = json.loads(reply)["edits"]
         return edits
 
-    async def put(self, here: Here, *edit: Any) -> tuple[int, int]:
-        """Make a gesture, and share it."""
+    async def in_force(self, here: Here) -> dict[tuple[Any, ...], int]:
+        """Return the values in force on the shared road of the program, by object and step."""
+        return {tuple(edit[:3]): edit[5] for edit in await self.shared(here) if edit[5] is not None}
+
+    async def put(self, here: Here, *edit: Any) -> Stamp:
+        """Put a shape, and share it."""
         if 1 not in here.keys:
             await here.join("Ada")
         stamp = await here.put(1, list(edit))
@@ -61,163 +83,378 @@ class Strangers(Case):
         for one in self.bus.sites:
             one._peers.known.clear()
 
-    # Numbers and folders
+    async def copy(self, here: Here) -> Path:
+        folder = new_folder() / "copy"
+        shutil.copytree(here.folder, folder)
+        return folder
 
-    async def test_a_number_is_bound_to_its_folder_at_every_site(self) -> None:
-        (one, first), (two, second) = await self.here(1), await self.here(2)
-        await self.bus.rounds()
-        self.leave(second)
-        await two.keeper.close()
-        again, other = await self.here(2)  # recreated with its number
-        await self.bus.rounds(2)
-        stamp = await self.put(again, "limit", 2, 50, 3)
-        await self.bus.rounds(3)
-        self.assertEqual((await self.shared(one), len(other.state()["sites"])), ([], 1))
-        self.assertIn("This site's number, 2, belongs to another folder, so nothing is sent", " ".join(other.state()["stays"]))
-        self.assertEqual(first.state()["sites"], [])
-        self.leave(other)
-        await again.keeper.close()
-        # It stays so, without the site that knew it.
-        here = await self.enterAsyncContext(Here(again.folder))
-        silent = Bus().site(here)
-        silent._send_unreturned()
-        self.assertEqual((getattr(silent._client, "sent"), silent.state()["unsent"]), ([], 1))
-        self.assertIn("nothing is sent", " ".join(silent.state()["stays"]))
-        # The folder that had the number first goes on, even if it is moved.
-        moved = new_folder() / "moved"
-        shutil.copytree(two.folder, moved)
-        back, _ = await self.here(2, moved)
-        await self.bus.rounds()
-        await self.put(back, "limit", 2, 50, 4)
-        await self.bus.carry()
-        self.assertEqual([edit[5] for edit in await self.shared(one)], [4])
-        self.assertNotEqual(stamp, (await self.shared(one))[0][3:5])
 
-    async def test_a_restored_or_cloned_folder_stamps_nothing_twice(self) -> None:
-        first, _ = await self.here(7)
+class Copies(Sited):
+    """Names of sites, copies and backups of folders."""
+
+    async def test_the_operations_of_the_protocol_have_the_names_that_it_says(self) -> None:
+        text = (Path(__file__).parents[1] / "PROTOCOL.md").read_text(encoding="utf-8").replace("(one line)", "")
+        lines = [line[4:].rstrip() for line in text.partition("Three operations as texts")[2].splitlines() if line.startswith("    ")]
+        named: dict[str, str] = {}
+        written = ""
+        for line in lines:
+            if line.startswith("{") or written and not written.endswith("}"):
+                written += line
+            elif written:
+                named[line], written = written, ""
+            if len(named) == 3:
+                break
+        self.assertEqual(len(named), 3)
+        for name, operation in named.items():
+            value = json.loads(operation)
+            one = read_operation({**value, "stamp": [value["stamp"], name]})
+            self.assertEqual((one.stamp, one.text()), ((value["stamp"], name), operation))
+            with self.assertRaisesRegex(Malformed, "hash"):
+                read_operation({**value, "stamp": [value["stamp"], name[::-1]]})
+
+    async def test_two_running_copies_of_a_folder_both_send_and_say_so(self) -> None:
+        first, one = await self.here("north")
         await first.join("Ada")
-        before = [await first.put(1, ["limit", 2, 50, 3]) for _ in range(3)]
-        copy = new_folder() / "copy"
-        shutil.copytree(first.folder, copy)
-        later = [await first.put(1, ["limit", 2, 50, 3]) for _ in range(3)]
-        clone = await self.enterAsyncContext(Here(copy))
-        cloned = [await clone.put(1, ["limit", 2, 50, 3]) for _ in range(3)]
-        every = [*before, *later, *cloned]
-        self.assertEqual((len(set(every)), every), (9, sorted(every)))  # and the later one wins
+        copied, other = await self.here(None, await self.copy(first))
+        third, south = await self.here("south")
+        site, now = first.lab.state.site, time.time()
+        self.assertEqual(copied.lab.state.site, site)
+        for seconds, is_told in ((0.0, False), (9.0, False), (11.0, True)):
+            with mock.patch("server.sites.peers.time.time", lambda seconds=seconds: now + seconds), \
+                    mock.patch("server.sites.sites.time.time", lambda seconds=seconds: now + seconds):
+                await self.bus.rounds()
+                for copy in (one, other):
+                    self.assertEqual(f"Another server runs a copy of this folder ({other._host})" in told(copy), is_told, seconds)
+                    self.assertEqual([each["site"] for each in copy.state()["sites"]], [third.lab.state.site])
+                self.assertNotIn("copy", told(south))
+                self.assertEqual([each["site"] for each in south.state()["sites"]], [site])
+        await first.put(1, ["limit", 2, 50, 3])
+        await first.share(1)
+        await copied.put(1, ["limit", 3, 60, 4])
+        await copied.share(1)
+        await self.bus.carry()  # at once, not once the sums are heard
+        for here in (first, copied, third):
+            self.assertEqual(steps(here), [50, 60])
+        self.assertEqual([each.state()["unsent"] for each in (one, other)], [0, 0])
+        mine = [line.get("seat") for line in (await first.ask(1, "layers", at="shared"))["layers"]]
+        self.assertEqual(sorted(mine, key=str), [1, None])  # what the copy's seat made is not this seat's
 
-    async def test_two_running_clones_are_reported_and_send_nothing(self) -> None:
-        first, one = await self.here(7)
-        copy = new_folder() / "copy"
-        shutil.copytree(first.folder, copy)
-        _, other = await self.here(7, copy)
-        third, third_site = await self.here(8)
-        await self.bus.rounds()
-        await self.put(first, "limit", 2, 50, 3)
-        await self.bus.rounds()
-        self.assertEqual(await self.shared(third), [])
-        self.assertEqual([each["site"] for each in third_site.state()["sites"]], [7])
-        for site in (one, other):
-            self.assertIn("uses this site's number, 7, too", " ".join(site.state()["stays"]))
-            self.assertEqual([each["site"] for each in site.state()["sites"]], [8])
-        self.leave(other)
-        await self.bus.rounds()
-        self.assertEqual(len(await self.shared(third)), 1)
+    async def test_a_restart_is_no_copy(self) -> None:
+        """The run before it was announced a moment ago, and a connection that was lost had a run of its own."""
+        _, site = await self.here("north")
+        now = time.time()
+        with mock.patch("server.sites.peers.time.time", lambda: now), mock.patch("server.sites.sites.time.time", lambda: now):
+            await self.bus.give(site, announced(site, "0" * 16, site._keeper.state.site))
+            self.assertNotIn("copy", told(site))
+            before = site._seal.run
+            site._seal.begin_run()
+            self.assertNotEqual(site._seal.run, before)
+            await self.bus.give(site, announced(site, before, site._keeper.state.site))
+            now += 11
+            await self.bus.give(site, announced(site, before, site._keeper.state.site))
+            self.assertNotIn("copy", told(site))
 
-    async def ask(self, here: Here, verb: str, **fields: Any) -> Any:
-        """Ask a question as a tab. Return the answer."""
-        return await verbs.answer(here.lab, here.questions, 1, CommandFields(verb, fields), {})
-
-    async def announce(self, site: Sites, folder: str, number: int, **more: Any) -> None:
-        value = {"folder": folder, "run": "r", "site": number, "road": site._road, "form": 3, **more}
-        await self.bus.give(site, Message("road/sites", json.dumps(value).encode()))
-
-    async def test_a_user_revokes_what_a_message_said_about_a_number(self) -> None:
-        """Otherwise the site could never send again. The message stays revoked after a restart, even if it is sent again."""
-        (one, first), (two, _) = await self.here(1), await self.here(2)
-        await self.bus.rounds()
-        with self.assertRaisesRegex(Refused, "NotBound"):
-            await self.ask(one, "unbind", site=1)
-        await self.announce(first, "f" * 16, 9, bound={"1": "nowhere"})
-        await self.put(one, "limit", 2, 50, 3)
-        await self.bus.carry()
-        self.assertEqual(await self.shared(two), [])
-        self.assertIn("live/road NAME unbind 1", told(first))
-        self.assertIn({"site": 1, "folder": "nowhere"}, (await self.ask(one, "numbers"))["numbers"])
-        await self.ask(one, "unbind", site=1)
-        await self.announce(first, "f" * 16, 9, bound={"1": "nowhere"})
-        self.assertIn("Site 9 says that this site's number, 1, belongs to another folder", told(first))
-        await self.bus.rounds()
-        self.assertEqual(len(await self.shared(two)), 1)
-        await one.keeper.close()
-        again = await self.enterAsyncContext(Here(one.folder))
-        site = Bus().site(again)
-        await self.announce(site, "f" * 16, 9, bound={"1": "nowhere"})
-        self.assertNotIn("nothing is sent", told(site))
-
-    async def test_numbers_of_folders_that_do_not_exist_are_bounded_and_can_be_forgotten(self) -> None:
-        (one, first), (two, _) = await self.here(1), await self.here(900)
-        for number in range(2, 900):
-            await self.announce(first, f"{number:016x}", number)
-        bound = (await self.ask(one, "numbers"))["numbers"]
-        self.assertEqual(len(bound), 64)
-        self.assertIn("64 site numbers are bound to folders, which is the limit", told(first))
-        await self.put(two, "limit", 2, 50, 3)  # sites that came later can exchange changes all the same
-        await self.bus.rounds(2)
-        self.assertEqual(len(await self.shared(one)), 1)
-        self.assertNotIn({"site": 900, "folder": two.lab.state.folder}, bound)
-        await self.ask(one, "unbind", site=bound[0]["site"])
-        self.assertNotIn("which is the limit", told(first))
-        await self.bus.rounds()
-        self.assertIn({"site": 900, "folder": two.lab.state.folder}, (await self.ask(one, "numbers"))["numbers"])
-        await one.keeper.close()
-        again = await self.enterAsyncContext(Here(one.folder))
-        self.assertEqual(len((await self.ask(again, "numbers"))["numbers"]), 64)
-
-    async def test_two_clones_of_a_machine_have_different_names_at_the_broker(self) -> None:
-        """Otherwise the broker would admit them in turn, so that neither hears of the other, and both send."""
-        first, _ = await self.here(7)
+    async def test_each_connection_to_the_broker_has_a_run_of_its_own(self) -> None:
+        """A machine that is resumed from a snapshot goes on under another one; and the broker chooses the client's name."""
+        _, site = await self.here("north")
+        before = site._seal.run
+        with mock.patch("server.sites.sites.longest_packet", lambda _: 1_000_000):
+            site._on_connect(mock.Mock(), None, None, 0, None)
+        self.assertNotEqual(site._seal.run, before)
+        self.assertEqual(site._seal.own, {before, site._seal.run})
         options = argparse.Namespace(broker="127.0.0.1:1", broker_user=None, broker_authority=None, site_key=None)
-        names = {getattr(Sites(first.lab, lambda: None, options)._client, "_client_id") for _ in range(2)}
-        self.assertEqual(len(names), 2)
-        for name in names:
-            self.assertIn(first.lab.state.folder.encode(), name)
+        self.assertEqual(getattr(Sites(site._lab, lambda: None, options)._client, "_client_id"), b"")
 
-    async def test_an_older_site_counts_as_the_same_folder_after_its_update(self) -> None:
-        """Older sites add the place of the folder to its token, which moves with the folder."""
-        (one, first), (two, second) = await self.here(1), await self.here(2)
-        cases: list[tuple[dict[str, Any], str]] = [({"form": 2}, "site 2"), ({"form": 4}, "this site"), ({}, "site 2")]
-        for form, update in cases:
-            older = {"folder": f"{two.lab.state.folder}-12345678", "site": 2, "road": first._road, **form}
-            await self.bus.give(first, Message("road/sites", json.dumps(older).encode()))
-            self.assertIn(f"Nothing is exchanged with site 2, whose server has a different version: update {update}", told(first))
-            self.assertEqual(first.state()["sites"], [])
+    async def test_a_stopped_copy_gets_a_site_of_its_own(self) -> None:
+        first, _ = await self.here("north")
+        await first.join("Ada")
+        made = [await self.put(first, "limit", 2, 50, 3), await first.put(1, ["limit", 3, 60, 4])]
+        folder, north = await self.copy(first), first.lab.state.site
+        moved = move_to_new_site(folder)
+        self.assertRegex(moved, "^north-[0-9a-f]{8}$")
+        self.assertNotEqual(moved, north)
+        here, site = await self.here(None, folder)
+        self.assertEqual(here.lab.state.site, moved)
+        own = {one.stamp: one.site for one in here.lab.state.seats[1].own}
+        self.assertEqual(own, {stamp: north for stamp in made})
+        here.keys.update(first.keys)
+        later = await here.put(1, ["limit", 4, 70, 2])
+        await here.share(1)
         await self.bus.rounds(2)
-        self.assertNotIn("another folder", told(second))
-        await self.put(two, "limit", 2, 50, 3)
-        await self.bus.carry()
-        self.assertEqual(len(await self.shared(one)), 1)
+        self.assertEqual({one.stamp: one.site for one in first.lab.state.shared.places}, {**own, later: moved})
+        self.assertEqual([each["site"] for each in site.state()["sites"]], [north])
+        with self.assertRaisesRegex(CannotStart, "journal"):
+            move_to_new_site(new_folder())
 
-    async def test_two_gestures_with_one_stamp_are_reported_and_all_sites_have_one_road(self) -> None:
-        sites = [await self.here(number) for number in (1, 2, 3)]
-        stamp = [stamps.next_count(0, stamps.milliseconds(), 0), 70 * 64 + 1]
-        messages = [message_of(sites[0][1], edit((stamp[0], stamp[1]), {("limit", 2, 50): value}, About(who, note, 1)))
-                    for value, who, note in ((3, "Eve", "slow"), (4, "Eva", ""))]
-        for place, (_, site) in enumerate(sites):
-            for message in messages if place else messages[::-1]:
-                await self.bus.give(site, message)
+    async def test_a_folder_keeps_its_site(self) -> None:
+        here, _ = await self.here("north")
+        await here.keeper.close()
+        with self.assertRaisesRegex(CannotStart, "north"):
+            await self.here("south", here.folder)
+        again, _ = await self.here("north", here.folder)
+        self.assertEqual(again.lab.state.site, here.lab.state.site)
+
+    async def test_a_restored_backup_gets_back_what_it_lost_and_names_nothing_twice(self) -> None:
+        """Changes that a seat made since the backup come back by their author's name, not as the seat's own, and Undo skips them."""
+        (one, first), (two, _) = await self.here("north"), await self.here("south")
+        await one.join("Ada")
+        before = [await self.put(one, "limit", 2, 50, 3)]
+        kept = await self.copy(one)
+        lost = [await self.put(one, "limit", 3, 60, 4)]
+        await self.bus.rounds()
+        self.leave(first)
+        await one.keeper.close()
+        back, site = await self.here(None, kept)
+        back.keys.update(one.keys)
         await self.bus.rounds(3)
-        roads = [numbers(await self.shared(here)) for here, _ in sites]
-        self.assertEqual(roads, [roads[0]] * 3)
-        for here, site in sites:
-            self.assertIn(f"Two changes have the same stamp, {stamp}, probably from a copied folder: of Eva and of Eve, slow", told(site))
-            self.assertEqual(sorted(one.about.who for one in here.lab.state.shared.places), ["Eva", "Eve"])
+        later = [await self.put(back, "limit", 4, 70, 2)]
+        await self.bus.rounds(2)
+        self.assertEqual((stamps(back), stamps(two)), ([*before, *lost, *later],) * 2)  # also in the order in which they were made
+        lines = {tuple(line["name"]): (line["who"], line.get("seat")) for line in (await back.ask(1, "layers", at="shared"))["layers"]}
+        self.assertEqual(lines, {before[0]: ("Ada", 1), lost[0]: ("Ada", None), later[0]: ("Ada", 1)})
+        await back.take(1)
+        await back.ask(1, "undo", key="z", note="", stamp=later[0])
+        self.assertEqual((await back.ask(1, "layers"))["undo"], before[0])
+        self.assertEqual(site.state()["told"], [])
+
+    async def test_a_restored_folder_holds_a_private_change_that_was_shared_since_only_once(self) -> None:
+        (one, first), (two, second) = await self.here("north"), await self.here("south")
+        await self.bus.rounds()
+        await one.join("Ada")
+        await one.put(1, ["limit", 2, 50, 3])
+        await one.keeper.close()
+        kept = await self.copy(one)
+        self.leave(first)
+        again, third = await self.here(None, one.folder)
+        await again.share(1)
+        await self.bus.rounds(2)
+        self.assertEqual(two.lab.state.shared.size, 1)
+        await again.keeper.close()
+        self.leave(third)
+        restored, fourth = await self.here(None, kept)
+        await self.bus.rounds(3)
+        self.assertEqual((restored.lab.state.shared.size, len(restored.lab.state.seats[1].own)), (1, 1))
+        self.assertEqual(fourth._sum_up().total, second._sum_up().total)
+        self.assertEqual((await restored.take(1))["size"], 0)
+        self.assertEqual((await restored.share(1))["size"], 0)
+        line, = (await restored.ask(1, "layers"))["layers"]
+        self.assertTrue(line["shared"])
+        self.assertEqual(len(line["operations"]), 1)
+
+    async def test_a_forged_name_is_refused_everywhere(self) -> None:
+        """So one name has one content: nobody can give a change of another site other contents, or its name to another change."""
+        (one, first), (two, second) = await self.here("north"), await self.here("south")
+        stamp = await self.put(one, "limit", 2, 50, 3)
+        await self.bus.rounds()
+        true, = one.lab.state.shared.places
+        changed: list[dict[str, Any]] = [
+            {"shape": ["limit", 2, 2, 50, None, 4]}, {"who": "Eve"}, {"site": "south-00000000"}, {"x": 1},
+            {"stamp": [stamp[0] + 1, stamp[1]]}, {"stamp": [stamp[0], limit(stamp[0], 50).stamp[1]]}]
+        for place, more in enumerate(changed):
+            forged = {**true.written(), **more}
+            for site in (first, second):
+                body = json.dumps({"form": 4, "operations": [forged]}).encode()
+                await self.bus.give(site, Message(f"road/{site._road}/operations", body))
+                self.assertIn("An operation of a message was ignored", told(site), place)
+                site._told.clear()
+        self.assertEqual((stamps(one), stamps(two)), ([stamp], [stamp]))
+        self.assertEqual([one.text() for one in two.lab.state.shared.places], [true.text()])
+
+    async def test_a_disk_that_refuses_between_name_and_disk_leaves_no_name(self) -> None:
+        here, site = await self.here("north")
+        await here.join("Ada")
+        with Disk(here.folder) as disk:
+            disk.fault = lambda _, name: errno.ENOSPC if name == "write" else None
+            with self.assertRaises(Refused):
+                await here.put(1, ["limit", 2, 50, 3], key="k")
+            disk.fault = lambda *_: None
+            stamp = await here.put(1, ["limit", 2, 50, 3], key="k")
+            await here.share(1)
+        self.assertEqual(stamps(here), [stamp])
+        await here.keeper.close()
+        self.leave(site)
+        again, _ = await self.here(None, here.folder)
+        self.assertEqual(stamps(again), [stamp])
+
+
+class Counts(Sited):
+    """The order of changes, clocks that are wrong, and counts that are far."""
+
+    async def at(self, name: str, milliseconds: int) -> tuple[Here, Sites]:
+        """Return a site with this clock."""
+        here, site = await self.here(name)
+        self.set_clock(here, milliseconds)
+        return here, site
+
+    def set_clock(self, here: Here, milliseconds: int) -> None:
+        here.keeper.counter._fixed = milliseconds
+
+    async def is_equal(self, *some: Here) -> None:
+        roads = [await self.in_force(here) for here in some]
+        self.assertEqual(roads, [roads[0]] * len(some))
+        self.assertEqual([stamps(here) for here in some], [stamps(some[0])] * len(some))
+
+    async def test_a_count_is_above_all_that_the_server_holds_and_at_least_the_clock(self) -> None:
+        counter = Counter(0)
+        self.assertEqual(counter.next(), 1)
+        for clock, held, expected in ((1_000, 7, 32_000), (1_000, 40_000, 40_001), (1 << 60, 9, FAR), (1 << 60, FAR + 5, FAR + 6)):
+            counter = Counter(clock)
+            counter.hold(held)
+            self.assertEqual(counter.next(), expected)
+
+    async def test_private_work_at_a_seat_counts_while_others_share(self) -> None:
+        """A change is above the private ones of other seats of its server, so changes of one server are in the order of their making."""
+        here, _ = await self.at("north", 0)
+        await here.join("Ada", "Ben")
+        made = [await here.put(seat, ["limit", 2, 50, 3]) for seat in (1, 2, 1, 1, 2)]
+        self.assertEqual(made, sorted(made))
+        await here.share(2)
+        await here.share(1)
+        self.assertEqual(stamps(here), made)
+        for turn in range(25):  # undone private changes are forgotten meanwhile; the count never sinks
+            stamp = await here.put(1, ["limit", 2, turn, 3])
+            made.append((await here.ask(1, "undo", key=f"u{turn}", note="", stamp=stamp))["stamp"])
+        here.keeper._forget()
+        self.assertGreater(await here.put(2, ["limit", 2, 50, 3]), made[-1])
+
+    async def test_changes_made_a_week_apart_are_in_the_order_of_their_making(self) -> None:
+        (one, first), (two, second) = await self.at("north", NOW), await self.at("south", NOW + 7 * DAY)
+        self.bus.sites.clear()
+        for here, steps_of, value in ((one, range(50, 60), 3), (two, range(50, 53), 4)):
+            for _ in steps_of:
+                await self.put(here, "limit", 2, 50, value)
+        self.bus.sites[:] = [first, second]
+        await self.bus.rounds(4)
+        await self.is_equal(one, two)
+        self.assertEqual([edit[5] for edit in await self.shared(one)], [4])  # of the one made a week later, though after fewer others
+
+    async def test_an_announced_count_orders_what_is_made_next(self) -> None:
+        """Here one clock is two hours ahead, and the sites share 72 s apart: with announcements their changes are in order."""
+        (one, first), (two, second) = await self.at("north", NOW + 2 * HOUR), await self.at("south", NOW)
+        made = []
+        for turn in range(6):
+            here = (one, two)[turn % 2]
+            self.set_clock(one, NOW + 2 * HOUR + 72_000 * turn)
+            self.set_clock(two, NOW + 72_000 * turn)
+            if 1 not in here.keys:
+                await here.join("Ada")
+            made.append(await here.put(1, ["limit", 2, 50 + turn, 3]))  # not shared: only the count is announced
+            await self.bus.rounds()
+        self.assertEqual(made, sorted(made))
+        self.assertEqual((one.lab.state.shared.size, two.lab.state.shared.size), (0, 0))
+        self.assertIn("stamped ahead of this server's clock", told(second))
+        self.assertNotIn("stamped ahead of this server's clock", told(first))
+
+    async def test_an_announced_count_above_2_to_the_50_is_ignored_and_one_below_is_believed(self) -> None:
+        here, site = await self.at("north", NOW)
+        await here.join("Ada")
+        await self.bus.give(site, announced(site, "a" * 16, "eve-00000000", count=FAR + 1))
+        self.assertEqual((await here.put(1, ["limit", 2, 50, 3]))[0], 32 * NOW)
+        await self.bus.give(site, announced(site, "a" * 16, "eve-00000000", road="another", count=FAR))
+        self.assertEqual((await here.put(1, ["limit", 2, 50, 3]))[0], 32 * NOW + 1)
+        await self.bus.give(site, announced(site, "a" * 16, "eve-00000000", count=FAR))
+        self.assertEqual((await here.put(1, ["limit", 2, 50, 3]))[0], FAR + 1)
+        self.assertIn("so from now on changes that are made at the same time are ordered by their counts alone", told(site))
+
+    async def test_a_clock_three_days_ahead_for_one_gesture_costs_nothing_else(self) -> None:
+        """Everything goes on at once, at both sites, and the page says until when the order goes by counts alone."""
+        (one, first), (two, second) = await self.at("north", NOW + 3 * DAY), await self.at("south", NOW)
+        made = [await self.put(one, "limit", 2, 50, 3)]
+        self.set_clock(one, NOW)
+        await self.bus.rounds()
+        await self.is_equal(one, two)
+        for site in (first, second):
+            self.assertIn("compare the clocks of the sites", told(site))
+            self.assertRegex(told(site), r"so until \d{4}-\d\d-\d\d \d\d:\d\d UTC changes that are made at the same time")
+        made.append(await self.put(two, "limit", 2, 50, 4))
+        await self.bus.rounds()
+        made.append(await self.put(one, "limit", 2, 50, 2))
+        await self.bus.rounds()
+        await self.is_equal(one, two)
+        self.assertEqual((stamps(one), made), (made, sorted(made)))
+        self.assertEqual([edit[5] for edit in await self.shared(two)], [2])
+        self.assertLess(made[-1][0], 32 * (NOW + 3 * DAY) + 3)
+        for here in (one, two):
+            self.set_clock(here, NOW + 3 * DAY - 500_000)
+        self.assertNotIn("compare the clocks", told(first) + told(second))
+
+    async def test_a_clock_three_days_back_makes_changes_above_what_is_held(self) -> None:
+        (one, first), (two, second) = await self.at("north", NOW), await self.at("south", NOW - 3 * DAY)
+        made = [await self.put(one, "limit", 2, 50, 3)]
+        await self.bus.rounds()
+        made.append(await self.put(two, "limit", 2, 50, 4))
+        self.set_clock(one, NOW - 3 * DAY)  # and then the other clock goes back, too
+        await self.bus.rounds()
+        made.append(await self.put(one, "limit", 2, 50, 2))
+        await one.ask(1, "undo", key="u", note="", stamp=made[-1])
+        await one.share(1)
+        await self.bus.rounds()
+        await self.is_equal(one, two)
+        self.assertEqual(made, sorted(made))
+        self.assertEqual([edit[5] for edit in await self.shared(one)], [4])
+        self.assertNotIn("ignored", told(first) + told(second))
+
+    async def test_far_counts_are_taken_whatever_the_order_of_arrival(self) -> None:
+        chain = [limit(FAR, 1), limit(FAR + LEAP, 2), limit(FAR + 2 * LEAP, 3), limit(FAR + 3 * LEAP + 1, 4)]
+        roads = []
+        for order in ((0, 1, 2, 3), (3, 2, 1, 0), (2, 0, 3, 1)):
+            here, site = await self.here("north")
+            for _ in range(4):  # their site sends them again, in the order of counts
+                for place in order:
+                    await self.bus.give(site, message_of(site, chain[place]))
+            roads.append(steps(here))
+            self.assertIn("1 changes were left out, since their counts are far above all that are shared here", told(site))
+            await here.keeper.close()
+            again = await self.enterAsyncContext(Here(here.folder))
+            self.assertEqual(steps(again), [1, 2, 3])
+        self.assertEqual(roads, [[1, 2, 3]] * 3)  # the last is a step too far
+        here, site = await self.here("north")
+        await self.bus.give(site, message_of(site, *reversed(chain)))  # in one message each follows those before it
+        self.assertEqual(steps(here), [1, 2, 3])
+
+    async def test_counts_cannot_be_used_up(self) -> None:
+        (here, site), last = await self.here("north"), (1 << 53) - 1
+        await here.join("Ada")
+        await self.bus.give(site, message_of(site, limit(last, 1), limit(FAR + LEAP + 1, 2)))
+        self.assertEqual(steps(here), [])
+        for count in (last + 1, 1 << 60):
+            with self.assertRaises(Malformed):
+                read_operation(limit(count, 1).written())
+        await self.bus.give(site, message_of(site, limit(FAR, 3)))
+        self.assertLess((await here.put(1, ["limit", 2, 50, 3]))[0], FAR + 10)
+        await here.share(1)
+        self.assertEqual(steps(here), [3, 50])
+
+    async def test_thousands_of_changes_stamped_days_ahead_are_taken_at_once_and_hold_up_nobody(self) -> None:
+        """(The test fails if the server does a long piece of work.)"""
+        here, site = await self.at("north", NOW)
+        await here.join("Ada")
+        many = [put(32 * (NOW + 3 * DAY) + place, Shape("limit", place % 6, place % 6, place, None, place % 5), About("Sam", site="south-00000000"))
+                for place in range(2_500)]
+        for _ in range(2):
+            await self.bus.give(site, message_of(site, *many))
+            self.assertEqual(here.lab.state.shared.size, 2_500)
+        self.assertGreater((await here.put(1, ["limit", 2, 50, 3]))[0], many[-1].stamp[0])
+
+    async def test_a_far_count_that_the_journal_holds_is_read(self) -> None:
+        """Then it lies on the shared road, so others can take it after those before it."""
+        here, site = await self.here("north")
+        with mock.patch("server.sites.sites.is_far", lambda *_: False):
+            await self.bus.give(site, message_of(site, limit(FAR + 5 * LEAP, 1)))
+        await here.keeper.close()
+        again = await self.enterAsyncContext(Here(here.folder))
+        self.assertEqual(steps(again), [1])
+
+
+class Exchange(Sited):
+    """Messages: which are sent, and how often."""
 
     async def test_a_gesture_is_sent_in_one_message_and_no_other(self) -> None:
         """Here two of five sites share overlapping changes at once."""
-        sites = [await self.here(number) for number in range(1, 6)]
+        sites = [await self.here(name) for name in ("a", "b", "c", "d", "e")]
         await self.bus.rounds(2)
 
-        async def told() -> int:
+        async def sent() -> int:
             """Return the number of messages with operations that are sent until all sites have announced twice what they hold."""
             self.bus.seen.clear()
             await self.bus.carry()
@@ -229,205 +466,53 @@ class Strangers(Case):
             shape = ["block", 60, last, last, 90, 1]
             await sites[place][0].ask(1, "gesture", key=f"{last}", note="", shape=shape)
         await sites[0][0].share(1)
-        self.assertEqual(await told(), 1)  # of two gestures
-        self.assertEqual(await told(), 0)
+        self.assertEqual(await sent(), 1)  # of two gestures
+        self.assertEqual(await sent(), 0)
         await sites[0][0].ask(1, "gesture", key="w", note="", layer="61", shape=None)
         await sites[0][0].share(1)
         await sites[1][0].share(1)
-        self.assertEqual(await told(), 2)  # what was shared is sent once, and nothing is sent because it arrived
-        self.assertEqual(await told(), 0)
-        roads = [numbers(await self.shared(here)) for here, _ in sites]
+        self.assertEqual(await sent(), 2)  # what was shared is sent once, and nothing is sent because it arrived
+        self.assertEqual(await sent(), 0)
+        roads = [await self.in_force(here) for here, _ in sites]
         self.assertEqual(roads, [roads[0]] * 5)
 
-    async def test_unsent_changes_are_sent_after_a_restart(self) -> None:
-        here = await self.enterAsyncContext(Here(site=1))
+    async def test_unsent_changes_are_sent_after_a_restart_in_the_order_of_their_counts(self) -> None:
+        here = await self.enterAsyncContext(Here())
         for seat, begin, end in zip(await here.join("Ada", "Ben"), (10, 20), (30, 40)):
             await here.ask(seat, "gesture", key="k", note="", shape=["block", 60, 60, begin, end, 1])
-        for seat in (1, 2):
+        for seat in (2, 1):
             await here.share(seat)
-        shared = [one.stamp for one in here.lab.state.shared.places]
         await here.keeper.close()
         again = await self.enterAsyncContext(Here(here.folder))
         self.bus.site(again)._send_unreturned()
         message, = self.bus.sent
-        self.assertEqual([tuple(one["stamp"]) for one in json.loads(message.payload)["operations"]], shared)
+        operations = json.loads(message.payload.partition(b"\n")[2])["operations"]
+        self.assertEqual([tuple(one["stamp"]) for one in operations], stamps(here))
 
-    async def test_a_restored_folder_holds_a_private_change_that_was_shared_since_only_once(self) -> None:
-        (one, first), (two, second) = await self.here(1), await self.here(2)
-        await self.bus.rounds()
-        await one.join("Ada")
-        await one.put(1, ["limit", 2, 50, 3])
-        await one.keeper.close()
-        kept = (one.folder / "journal.jsonl").read_bytes()
-        self.leave(first)
-        again, third = await self.here(1, one.folder)
-        await again.share(1)
-        await self.bus.rounds(2)
-        self.assertEqual(two.lab.state.shared.size, 1)
-        await again.keeper.close()
-        self.leave(third)
-        (one.folder / "journal.jsonl").write_bytes(kept)  # from a copy
-        (one.folder / "seen.json").unlink(missing_ok=True)
-        restored, fourth = await self.here(1, one.folder)
-        await self.bus.rounds(3)
-        self.assertEqual((restored.lab.state.shared.size, len(restored.lab.state.seats[1].own)), (1, 1))
-        self.assertEqual(fourth._sum_up().total, second._sum_up().total)
-        self.assertEqual((await restored.take(1))["size"], 0)
-        self.assertEqual((await restored.share(1))["size"], 0)
-        line, = (await restored.ask(1, "layers"))["layers"]
-        self.assertTrue(line["shared"])
-        self.assertEqual(len(line["operations"]), 1)
+    async def test_a_site_announces_itself_when_it_has_connected(self) -> None:
+        """Until then the others would count its messages as those of a stranger."""
+        here, site = await self.here("north")
+        site._is_connected(None)
+        message = self.bus.sent[0]
+        self.assertEqual((message.topic, json.loads(message.payload.partition(b"\n")[2])), ("road/sites", {
+            "form": 4, "site": here.lab.state.site, "host": site._host, "road": site._road, "count": here.keeper.counter.greatest}))
 
-    # Clocks
-
-    async def test_operations_more_than_a_day_ahead_are_reported_and_taken_on_their_day(self) -> None:
-        """All sites do so, whatever they hold already."""
-        clock = [now := stamps.milliseconds()]
-        with mock.patch("server.journal.stamps.milliseconds", lambda: clock[0]):
-            (one, first), (two, second) = await self.here(1), await self.here(2)
-            await self.put(two, "limit", 1, 40, 2)
-            for ahead, count in ((DAY, 1), (DAY + 2_000, 1)):
-                one_edit = edit((32 * (now + ahead), 70), {("limit", 2, ahead % DAY // 100): 3}, About("number 70"))
-                self.bus.sent.append(message_of(first, one_edit))
-            await self.bus.rounds()
-            self.assertEqual([here.lab.state.shared.size for here in (one, two)], [2, 2])
-            for site in (first, second):
-                self.assertIn("of number 70 is more than a day ahead of the clock", told(site))
-                self.assertIn("1 changes are stamped more than a day ahead", told(site))
-            clock[0] += 1_000
-            await self.bus.rounds()
-            self.assertEqual([here.lab.state.shared.size for here in (one, two)], [2, 2])
-            clock[0] += 2_000
-            await self.bus.rounds()
-            self.assertEqual([here.lab.state.shared.size for here in (one, two)], [3, 3])
-            self.assertNotIn("1 changes are stamped more than a day ahead", told(first))
-
-    async def test_early_operations_hold_up_no_others_and_wait_once(self) -> None:
-        """Another change in the same message is taken at once. An operation that is sent again and again waits once, and only a
-        few operations may wait."""
-        now = stamps.milliseconds()
-        clock = [now]
-        with mock.patch("server.journal.stamps.milliseconds", lambda: clock[0]):
-            here, site = await self.here(1)
-
-            async def comes(*some: tuple[int, int]) -> None:
-                """Deliver operations whose stamps are this many milliseconds ahead, each with a limit from a step on."""
-                await self.bus.give(site, message_of(site, *(edit((32 * (now + ahead), 70), {("limit", 2, step): 3}, About("Eve"))
-                                                             for ahead, step in some)))
-            for _ in range(3):
-                await comes((0, 1), (DAY + 1_000, 2), (DAY + 2_000, 3))
-            self.assertEqual(steps(here), [1])
-            self.assertIn("2 changes are stamped more than a day ahead", told(site))
-            await comes((DAY + 1_000, 1 << 20))
-            self.assertIn("2 changes are stamped more than a day ahead", told(site))  # an operation that does not fit the plan does not wait
-            with mock.patch("server.sites.sites.MOST_EARLY", 9), mock.patch("server.sites.sites.LONGEST_EARLY", 650):
-                await comes(*((DAY + 3_000, step) for step in range(4, 30)))
-                self.assertIn("8 changes are stamped more than a day ahead", told(site))
-            await comes((DAY + 1_000, 2), (DAY + 2_000, 3))
-            clock[0] += 1_500
-            await self.bus.rounds()
-            self.assertEqual(steps(here), [1, 2])
-            self.assertIn("9 changes are stamped more than a day ahead", told(site))
-
-    async def test_private_operations_stamped_by_a_wrong_clock_get_new_stamps(self) -> None:
-        """The clock is three days ahead for one gesture. Everything goes on, and other sites take the gesture as soon as it is
-        shared."""
-        clock = [stamps.milliseconds()]
-        with mock.patch("server.journal.stamps.milliseconds", lambda: clock[0]):
-            (one, first), (two, _) = await self.here(1), await self.here(2)
-            await one.join("Ada")
-            clock[0] += 3 * DAY
-            old = await one.ask(1, "gesture", key="ahead", note="", shape=["block", 60, 60, 20, 40, 1])
-            clock[0] -= 3 * DAY
-            await one.ask(1, "gesture", key="later", note="", layer=list(old["stamp"]), shape=["block", 60, 60, 20, 50, 1])
-            held = sorted(each.stamp for each in one.lab.state.seats[1].own)
-            self.assertFalse(any(count > one.keeper.stamps.latest_count() for count, _ in held))
-            line, = (await one.ask(1, "layers"))["layers"][-1:]
-            self.assertEqual(([*line["shape"]], [each["does"] for each in line["operations"]]),
-                             (["block", 60, 60, 20, 50, 1], ["put", "change"]))
-            self.assertEqual((await one.ask(1, "gesture", key="ahead", note="", shape=["block", 1, 1, 1, 2, 1]))["stamp"], held[0])
-            await one.share(1)
-            await self.bus.rounds(2)
-            self.assertEqual([each.stamp for each in two.lab.state.shared.places], held)
-            self.assertEqual(first._early, {})
-            await one.keeper.close()
-            again = await self.enterAsyncContext(Here(one.folder))
-            self.assertEqual(sorted(each.stamp for each in again.lab.state.seats[1].own), held)
-
-    async def test_a_site_reports_that_its_clock_is_ahead_of_all_others(self) -> None:
-        """It is more than five minutes ahead of those of all sites that sent a message in the last minute."""
-        (_, first), (_, second), (_, third) = [await self.here(number) for number in (1, 2, 3)]
-        await self.bus.rounds()
-        real, steady = time.time, time.monotonic
-
-        async def told_ahead(site: Sites, seconds: float) -> bool:
-            """Return whether a site whose clock is this far ahead reports it, and no other site does."""
-            self.bus.sites.remove(site)
-            for other in self.bus.sites:
-                other._announce_site()
-            with mock.patch("server.sites.peers.time.time", lambda: real() + seconds):
-                for message in self.bus.sent:
-                    await self.bus.give(site, message)
-                site._announce_site()
-                said = told(site)
-            self.bus.sites.append(site)
-            await self.bus.carry()
-            self.assertNotIn("ahead of all", told(second) + told(third))
-            return f"This server's clock is {seconds / 60:.0f} minutes ahead of all other sites'" in said
-        later = [0.0]
-        with mock.patch("server.sites.peers.time.monotonic", lambda: steady() + later[0]):
-            for seconds, is_told in ((290, False), (310, True), (3 * 86_400, True), (0, False)):
-                later[0] += 61
-                self.assertEqual(await told_ahead(first, seconds), is_told, seconds)
-            later[0] += 61
-            await self.announce(first, "f" * 16, 9, time=1_000 * int(time.time() - 900))  # only one clock is behind
-            await self.bus.rounds()
-            self.assertNotIn("ahead of all", told(first))
-            later[0] += 61
-            await self.announce(first, "f" * 16, 9, time=1_000 * int(time.time() - 900))
-            self.assertIn("15 minutes ahead of all other sites'", told(first))
-            later[0] += 61
-            self.assertNotIn("ahead of all", told(first))
-
-    async def test_a_site_ahead_of_all_others_stamps_with_their_clocks(self) -> None:
-        """Its stamps begin after the greatest stamp of the others, so no change that is made here beats a later change there."""
-        for seconds in (310, 86_000, 3 * 86_400):
-            here, site = await self.here(1)
-            await here.join("Ada")
-            theirs = stamps.milliseconds() - 1_000 * seconds
-            await self.announce(site, "f" * 16, 9, time=theirs)
-            came = edit((32 * theirs, 9 * 64 + 1), {("limit", 1, 30): 3}, About("Sam"))
-            await self.bus.give(site, message_of(site, came))
-            stamp = await here.put(1, ["limit", 2, 50, 3])
-            self.assertGreater(stamp[0], came.stamp[0])
-            self.assertLess(stamp[0], 32 * (theirs + 300_000))
-            await self.announce(site, "e" * 16, 8, time=stamps.milliseconds())  # one clock agrees with this one
-            stamp = await here.put(1, ["limit", 2, 50, 1])
-            self.assertGreater(stamp[0], 32 * (stamps.milliseconds() - 300_000))
-
-    async def test_stamps_far_ahead_from_before_others_were_heard_are_replaced(self) -> None:
-        here, site = await self.here(1)
-        await here.join("Ada")
-        early = await here.put(1, ["limit", 1, 40, 2])
-        theirs = stamps.milliseconds() - 3 * DAY
-        await self.announce(site, "f" * 16, 9, time=theirs)
-        stamp = await here.put(1, ["limit", 2, 50, 3])
-        held = sorted(one.stamp for one in here.lab.state.seats[1].own)
-        self.assertEqual((len(held), held[1]), (2, stamp))
-        self.assertNotIn(early, held)
-        self.assertLess(stamp[0], 32 * (theirs + 300_000))
-
-    # Roads
-
-    async def test_the_clock_of_a_site_with_another_road_does_not_count(self) -> None:
-        (_, first), _ = await self.here(1), await self.here(2, plan={**SMALL, "words": 2})
+    async def test_a_site_with_another_road_is_named_and_its_counts_do_not_matter(self) -> None:
+        (here, first), _ = await self.here("north"), await self.here("south", plan={**SMALL, "words": 2})
         await self.bus.rounds()
         self.assertEqual(first.state()["sites"], [])
-        self.assertIn("Site 2 has another road", " ".join(first.state()["stays"]))
+        self.assertRegex(told(first), "Site south-[0-9a-f]{8} has another road")
 
     async def test_the_order_of_a_plans_fields_does_not_matter(self) -> None:
-        (_, first), (_, other) = await self.here(1), await self.here(2, plan=dict(reversed(SMALL.items())))
+        (_, first), (_, other) = await self.here("north"), await self.here("south", plan=dict(reversed(SMALL.items())))
         self.assertEqual(first._road, other._road)
+
+    async def test_another_version_is_named(self) -> None:
+        _, first = await self.here("north")
+        for form, update in ((3, "site south-00000001"), (5, "this site"), (None, "site south-00000001")):
+            await self.bus.give(first, announced(first, "a" * 16, "south-00000001", form=form))
+            self.assertIn(f"Nothing is exchanged with site south-00000001, whose server has a different version: update {update}", told(first))
+            self.assertEqual(first.state()["sites"], [])
 
 
 class Keys(Case):
@@ -437,7 +522,7 @@ class Keys(Case):
         self.bus = Bus()
         self.key = new_folder() / "key"
         self.key.write_text("a secret of the sites\n")
-        self.one, self.two = [await self.enterAsyncContext(Here(site=number)) for number in (1, 2)]
+        self.one, self.two = [await self.enterAsyncContext(Here(site=name)) for name in ("north", "south")]
         self.first, self.second = self.bus.site(self.one, self.key), self.bus.site(self.two, self.key)
         await self.one.join("Ada")
 
@@ -449,26 +534,43 @@ class Keys(Case):
     def held(self, here: Here) -> int:
         return here.lab.state.shared.size
 
+    def road(self, here: Here) -> list[tuple[Stamp, bool]]:
+        """Return the operations of the shared road, and whether each counts."""
+        road = here.lab.state.shared.road
+        return [(one.stamp, road.record.counts(one)) for one in sorted(here.lab.state.shared.places)]
+
     async def test_only_sealed_messages_are_taken(self) -> None:
         await self.share(50)
         self.assertEqual(self.held(self.two), 1)
         edits = next(one for one in self.bus.seen if one.topic.endswith("/operations"))
         head, _, body = edits.payload.partition(b"\n")
         fields = json.loads(head)
-        other = seals.Seal("x", b"another secret of others").seal(edits.topic, body)
-        changed = body.replace(b"50]", b"51]")
-        for number, payload in enumerate((
-                body, changed, head + b"\n" + changed, other,
-                json.dumps({**fields, "number": fields["number"] + 1}).encode() + b"\n" + body,
-                json.dumps({**fields, "time": fields["time"] + 1}).encode() + b"\n" + body,
-                json.dumps({**fields, "folder": "y"}).encode() + b"\n" + body,
-                json.dumps({**fields, "mac": "é"}).encode() + b"\n" + body,
-                json.dumps({name: value for name, value in fields.items() if name != "mac"}).encode() + b"\n" + body), 1):
+        other = seals.Seal(b"another secret of others").seal(edits.topic, body)
+        changed = body.replace(b",50,", b",51,")
+        heads: list[Any] = [{**fields, "run": "0" * 16}, {**fields, "run": "é" * 16}, {**fields, "mac": "é"}, {**fields, "mac": 7}, {"run": fields["run"]}, []]
+        for number, payload in enumerate((body, changed, head + b"\n" + changed, other, *(
+                json.dumps(one).encode() + b"\n" + body for one in heads)), 1):
             await self.bus.give(self.second, Message(edits.topic, payload))
             self.assertEqual((self.held(self.two), self.second.state()["left_out"]), (1, number), payload)
         await self.bus.give(self.second, Message("road/sites", edits.payload))  # at another topic
-        self.assertEqual(self.second.state()["left_out"], 10)
-        self.assertIn("10 messages were ignored: they are not sealed with this site's --site-key", " ".join(self.second.state()["stays"]))
+        self.assertEqual(self.second.state()["left_out"], 11)
+        self.assertIn("11 messages were ignored: they are not sealed with this site's --site-key", " ".join(self.second.state()["stays"]))
+        self.assertEqual(self.second._peers.known, {})  # nothing of such a message is used
+
+    async def test_a_seal_is_the_mac_that_the_protocol_says(self) -> None:
+        seal = seals.Seal(b"a secret of the sites")
+        head, _, body = seal.seal("road/sites", b'{"form":4}').partition(b"\n")
+        mac = hmac.new(b"a secret of the sites", b"road/sites\n" + seal.run.encode() + b'\n{"form":4}', "sha256").hexdigest()
+        self.assertEqual((json.loads(head), body), ({"run": seal.run, "mac": mac}, b'{"form":4}'))
+        self.assertRegex(seal.run, "^[0-9a-f]{16}$")
+
+    async def test_roads_with_different_keys_are_different_roads(self) -> None:
+        """So the recorded changes of last month do not come along if a new folder of the same road takes a new key."""
+        other = new_folder() / "key"
+        other.write_text("a new secret of the sites\n")
+        roads = {Bus().site(self.one, key)._road for key in (None, self.key, other)}
+        self.assertEqual(len(roads), 3)
+        self.assertEqual(Bus().site(self.two, self.key)._road, self.first._road)
 
     async def test_a_flood_without_a_seal_is_ignored_and_reported(self) -> None:
         """It costs the event loop nothing, and sealed messages are heard."""
@@ -479,175 +581,167 @@ class Keys(Case):
             said: list[str] = []
             with mock.patch.object(self.second, "_say", said.append):
                 for number in range(300):
-                    await self.bus.give(self.second, Message("road/sites", json.dumps({"folder": f"{number:x}"}).encode()))
+                    await self.bus.give(self.second, Message("road/sites", json.dumps({"site": f"{number:x}"}).encode()))
             self.assertLess(len(said), 30)
             self.assertEqual(self.second.state()["left_out"], 300)
             self.assertIn("A sender without this site's --site-key sends too many messages", told(self.second))
             await self.share(50)
             self.assertEqual(self.held(self.two), 1)
             now[0] += 31
-            self.assertNotIn("too much", told(self.second))
+            self.assertNotIn("too many", told(self.second))
 
-    async def test_a_flood_from_many_names_is_ignored_and_reported(self) -> None:
-        """If the sites have no key, each message may name a different folder. Messages of a known site are still read."""
-        here = await self.enterAsyncContext(Here(site=3))
-        bus, now, came = Bus(), [0.0], []
+    async def test_a_flood_from_many_runs_is_ignored_and_reported(self) -> None:
+        """If the sites have no key, each message may name a different run. Messages of a known site are still read."""
+        here = await self.enterAsyncContext(Here(site="east"))
+        bus, now, came = Bus(), [0.0], list[str]()
         site, _ = bus.site(here), bus.site(self.one)
         await bus.rounds()
         with mock.patch("server.sites.floods.MESSAGE_BURST", 20), mock.patch("server.sites.floods.MESSAGES_PER_SECOND", 1):
             site._floods = Floods(lambda: now[0])
-            with mock.patch.object(Sites, "_receive", lambda _, topic, folder, body: came_in(folder)):
-                async def came_in(folder: str) -> None:
-                    came.append(folder)
+            with mock.patch.object(Sites, "_receive", lambda _, topic, run, body: came_in(run)):
+                async def came_in(run: str) -> None:
+                    came.append(run)
                 for number in range(300):
-                    await bus.give(site, Message("road/sites", json.dumps({"folder": f"{number:040x}"}).encode()
-                                                 .replace(b": ", b":")))
+                    head = json.dumps({"run": f"{number:016x}", "mac": ""}).encode()
+                    await bus.give(site, Message(f"road/{site._road}/operations", head + b"\n{}"))
             self.assertLess(len(came), 30)
-            self.assertIn("A sender that names no folder sends too many messages", told(site))
+            self.assertIn("A sender that does not announce itself sends too many messages", told(site))
             await self.one.put(1, ["limit", 2, 50, 3])
             await self.one.share(1)
             await bus.carry()
             self.assertEqual(self.held(here), 1)
 
-    async def test_replayed_messages_are_ignored(self) -> None:
-        await self.share(50)
-        seen = []
-        with mock.patch.object(Sites, "_receive", lambda _, topic, folder, body: came(body)):
-            async def came(body: bytes) -> None:
-                seen.append(body)
-            for message in list(self.bus.seen):
-                await self.bus.give(self.second, message)
-        self.assertEqual((seen, self.second.state()["left_out"]), ([], 0))
-
-    async def test_messages_replayed_after_a_restart_are_ignored(self) -> None:
-        """Otherwise a replayed announcement, of this folder or of another one with its number, would stop it from sending."""
-        with mock.patch("server.sites.seals.NUMBERS_RESERVED", 1):
-            await self.bus.rounds(2)
-            await self.share(50)
-            caught = list(self.bus.seen)
-            self.bus.sites.remove(self.second)
-            await self.two.keeper.close()
-            again = await self.enterAsyncContext(Here(self.two.folder))
-            site = self.bus.site(again, self.key)
+    async def test_all_messages_of_two_rounds_played_again_after_a_restart_change_nothing(self) -> None:
+        """Not the road, not the clock, not what is sent; a site that is gone seems connected for some seconds, and that is all."""
+        await self.bus.rounds(2)
+        for step in (50, 60):
+            await self.share(step)
+        undone = self.road(self.one)[1][0]
+        await self.one.ask(1, "undo", key="u", note="", stamp=undone)
+        await self.one.share(1)
+        await self.bus.rounds(2)
+        caught = list(self.bus.seen)
+        self.bus.sites.remove(self.second)
+        await self.two.keeper.close()
+        again = await self.enterAsyncContext(Here(self.two.folder))
+        site = self.bus.site(again, self.key)
+        expected, count = self.road(again), again.keeper.counter.greatest
+        self.assertEqual(expected, self.road(self.one))
+        self.bus.sent.clear()
+        for _ in range(3):
             for message in caught:
                 await self.bus.give(site, message)
-            self.assertEqual((site.state()["sites"], told(site), site.state()["left_out"]), ([], "", 0))
-            await self.share(51)
-            self.assertEqual(self.held(again), 2)
-            await self.bus.rounds(2)  # and its messages are read
-            self.assertEqual([one["site"] for one in self.first.state()["sites"]], [2])
+        self.assertEqual((self.road(again), again.keeper.counter.greatest, site.state()["left_out"]), (expected, count, 0))
+        self.assertEqual((site.state()["told"], site.state()["unsent"]), ([], 0))
+        self.assertLessEqual([one.topic for one in self.bus.sent], [f"road/{site._road}/operations"])  # an old sum gets one answer at most
+        self.assertEqual([one["site"] for one in site.state()["sites"]], [self.one.lab.state.site])
+        await self.share(70)
+        await self.bus.rounds(2)
+        self.assertEqual(self.road(again), self.road(self.one))
+        await site._keeper.journal.wait_until_written()
+        self.assertNotIn("seen.json", [one.name for one in again.folder.iterdir()])
 
-    async def test_messages_sent_after_a_restart_are_read_at_once(self) -> None:
-        """Here the server ended, or was killed. Messages from before that are ignored."""
-        for is_killed in (True, False):
-            with mock.patch("server.sites.seals.NUMBERS_RESERVED", 200 if is_killed else 3_600_000):
-                await self.bus.rounds(2)
-                await self.share(50 + is_killed)
-                caught, held = list(self.bus.seen), self.held(self.two)
-                self.bus.sites.remove(self.second)
-                if is_killed:
-                    await asyncio.sleep(0.3)  # a restart takes at least this long
-                else:
-                    self.second._seal.end()
-                await self.two.keeper.close()
-                self.two = await self.enterAsyncContext(Here(self.two.folder))
-                self.second = self.bus.site(self.two, self.key)
-                for message in caught:
+    async def test_a_message_played_again_is_known_by_its_hash(self) -> None:
+        """So it costs no reading, and who plays it often cannot silence the site that sent it: its account is that of repeats."""
+        await self.bus.rounds()
+        await self.share(50)
+        message = next(one for one in self.bus.seen if one.topic.endswith("/operations"))
+        run = json.loads(message.payload.partition(b"\n")[0])["run"]
+        with mock.patch("server.sites.floods.MESSAGE_BURST", 20), mock.patch("server.sites.floods.MESSAGES_PER_SECOND", 1):
+            self.second._floods = Floods()
+            with mock.patch.object(self.second._lab, "read", side_effect=AssertionError):
+                for _ in range(200):
                     await self.bus.give(self.second, message)
-                self.assertEqual((self.held(self.two), self.second.state()["sites"]), (held, []))
-                await self.share(60 + is_killed)
-                self.assertEqual(self.held(self.two), held + 1)
-
-    def test_a_number_above_a_taken_one_is_on_the_disk_first(self) -> None:
-        """This is so whenever the server is killed, although a number is not written for each message."""
-        path = new_folder() / "seen.json"
-        for number in range(10_000, 20_000, 100):
-            seals.Taken(path).take("a1", number, 9_000)
-            self.assertGreaterEqual(seals.Taken(path).bound("a1"), number)
-        with mock.patch("server.sites.seals.put_in_place", side_effect=OSError) as writes:
-            taken = seals.Taken(path)
-            for number in range(20_000, 21_000, 10):
-                taken.take("a1", number, 9_000)
-        self.assertLess(writes.call_count, 6)
-        seals.Taken(path).take("b2", 50_000, 40_000)
-        self.assertEqual((seals.Taken(path).bound("a1"), seals.Taken(path).bound("b2")), (0, 50_200))
-        path.write_text("[")
-        self.assertEqual(seals.Taken(path).bound("b2"), 0)
-
-    async def test_old_messages_are_ignored(self) -> None:
-        """Here a message was intercepted a quarter of an hour ago, and never arrived."""
-        with mock.patch.object(self.first._seal, "_clock", lambda: time.time() - 900):
-            await self.share(50)
-        self.assertEqual(self.held(self.two), 0)
-        self.assertIn("more than 10 minutes old", told(self.second))
-        await self.bus.rounds(3)  # its contents are sent again
-        self.assertEqual(self.held(self.two), 1)
-
-    async def test_messages_from_a_clock_far_ahead_are_ignored(self) -> None:
-        """Otherwise such a message could be replayed for longer."""
-        with mock.patch.object(self.first._seal, "_clock", lambda: time.time() + 900):
-            await self.share(50)
-        self.assertEqual(self.held(self.two), 0)
-        self.assertIn("more than 10 minutes old by this site's clock", told(self.second))
-
-    async def test_a_clock_days_ahead_is_reported_even_though_others_messages_look_old_there(self) -> None:
-        self.first._announce_site()
-        clock = time.time
-        with mock.patch("server.sites.peers.time.time", lambda: clock() + 86_400), \
-                mock.patch.object(self.second._seal, "_clock", lambda: clock() + 86_400):
-            for message in self.bus.sent:
+            self.assertIn("A sender of messages that bring nothing new sends too many messages", told(self.second))
+            self.second._done.clear()  # also if it is no longer known
+            for _ in range(200):
+                self.second._done.clear()
                 await self.bus.give(self.second, message)
-            self.assertIn("1440 minutes ahead of all other sites'", told(self.second))
+            self.assertFalse(self.second._floods.is_ignored(run))
+            announcement = next(one for one in self.bus.seen if one.topic == "road/sites" and run.encode() in one.payload)
+            for _ in range(200):
+                await self.bus.give(self.second, announcement)
+            self.assertIn("A sender of announcements sends too many messages", told(self.second))
+            self.assertFalse(self.second._floods.is_ignored(run))
+            await self.share(60)
+            self.assertEqual(self.held(self.two), 2)
+
+    async def test_a_sum_played_again_and_again_is_ignored(self) -> None:
+        await self.bus.rounds(2)
+        run = self.first._seal.run
+        message = next(one for one in self.bus.seen if one.topic.endswith("/sum") and run.encode() in one.payload)
+        read = list[str]()
+
+        async def receive(run: str, _: Any) -> None:
+            read.append(run)
+        with mock.patch.multiple("server.sites.floods", MESSAGE_BURST=20, MESSAGES_PER_SECOND=1, WORK=0), \
+                mock.patch.object(self.second, "_receive_hash", receive):
+            self.second._floods = Floods()
+            for _ in range(100):
+                await self.bus.give(self.second, message)
+        self.assertEqual((set(read), len(read) < 30, self.second._floods.is_ignored(run)), ({run}, True, False))
+
+    async def test_no_message_deafens_a_site_to_another(self) -> None:
+        """Neither one with the largest numbers, nor one that somebody else with the key seals under another's run, also after a restart."""
+        await self.bus.rounds()
+        large = (1 << 53) - 1
+        topic = f"road/{self.second._road}/operations"
+        forger = seals.Seal(self.key.read_bytes().strip())
+        forger.run = self.first._seal.run
+        bodies = [{"form": 4, "operations": [limit(large, 1).written()], "number": large, "time": large}, {"form": 4, "operations": []},
+                  {"form": 4, "operations": [7, limit(1, 1, 99).written()]}]
+        for body in bodies:
+            await self.bus.give(self.second, Message(topic, forger.seal(topic, json.dumps(body).encode())))
+        sealed = {"site": self.one.lab.state.site, "host": "x", "road": self.second._road, "count": large, "form": 4}
+        await self.bus.give(self.second, Message("road/sites", forger.seal("road/sites", json.dumps(sealed).encode())))
+        await self.share(50)
+        self.assertEqual(steps(self.two), [50])
+        self.bus.sites.remove(self.second)
+        await self.two.keeper.close()
+        again = await self.enterAsyncContext(Here(self.two.folder))
+        self.bus.site(again, self.key)
+        await self.share(60)
+        self.assertEqual(steps(again), [50, 60])
+
+    async def test_a_flood_of_new_messages_is_its_senders_own(self) -> None:
+        await self.bus.rounds()
+        with mock.patch("server.sites.floods.MESSAGE_BURST", 5), mock.patch("server.sites.floods.MESSAGES_PER_SECOND", 0):
+            self.second._floods = Floods()
+            for step in range(20):
+                await self.share(step)
+            self.assertIn(f"Site {self.one.lab.state.site} sends too many messages", told(self.second))
+            self.assertLess(self.held(self.two), 8)
+
+    async def test_a_clock_a_day_wrong_and_an_hour_away_leaves_both_roads_equal(self) -> None:
+        """Seals have no time, so no message is too old; what was shared meanwhile is sent when the site is back."""
+        for day in (DAY, -DAY):
+            self.two.keeper.counter._fixed = time.time_ns() // 1_000_000 + day
+            if 1 not in self.two.keys:
+                await self.two.join("Ben")
+            self.second._is_gone()  # for an hour; the other one goes on
+            self.bus.sites.remove(self.second)
+            for step in (50, 51):
+                await self.share(step)
+                await self.two.put(1, ["limit", 2, step, 4])
+                await self.two.share(1)
+            await self.bus.rounds(3)
+            self.bus.sites.append(self.second)
+            real = time.monotonic
+            with mock.patch("server.sites.sites.time.monotonic", lambda: real() + 3_600):
+                self.second._is_connected(None)
+                await self.bus.rounds(4)
+            self.assertEqual(self.road(self.one), self.road(self.two))
+            self.assertEqual(self.second.state()["left_out"], 0)
+        self.assertEqual(self.held(self.one), 8)
 
     async def test_the_page_warns_that_messages_have_no_key(self) -> None:
-        here = await self.enterAsyncContext(Here(site=3))
+        here = await self.enterAsyncContext(Here(site="east"))
         site = Bus().site(here)
         self.assertFalse(site.state()["sealed"])
         self.assertIn("Anybody who can connect to the broker can send changes", " ".join(site.state()["stays"]))
-        self.assertNotIn("trust", " ".join(self.first.state()["stays"]))
+        self.assertNotIn("Anybody", " ".join(self.first.state()["stays"]))
 
     def test_a_key_that_is_too_short_is_refused(self) -> None:
         self.key.write_text(" 15 bytes, here \n")
         with self.assertRaisesRegex(CannotStart, "has 14 bytes, but the key of the sites must have at least 16"):
             seals.key_of(self.key)
-
-
-class Counting(unittest.TestCase):
-    def test_a_count_is_above_all_held_ones_and_at_least_the_clock(self) -> None:
-        self.assertEqual(stamps.next_count(7, 0, 0), 8)
-        self.assertEqual(stamps.next_count(7, 1_000, 5), 32_005)
-        self.assertEqual(stamps.next_count(32_005, 1_000, 31), 32_031)
-        self.assertEqual(stamps.next_count(40_000, 1_000, 31), 40_001)
-        self.assertLess(stamps.next_count(0, 4_102_444_800_000, 31), 1 << 48)  # this holds in the year 2100, too
-
-    def test_a_new_stamp_is_above_all_that_the_clock_allows_without_scanning_them(self) -> None:
-        """Counts that are more than a day ahead are ignored until their day, and again if the clock is put back."""
-        class Looked(dict[Any, Any]):
-            def __iter__(self) -> Iterator[Any]:
-                looks.append(True)
-                return super().__iter__()
-        clock, looks, soon, late = [0], list[bool](), 32 * DAY // 2, 32 * 3 * DAY
-        with mock.patch("server.journal.stamps.milliseconds", lambda: clock[0]), mock.patch("server.journal.stamps.random_bits", lambda: 0):
-            state = State(stamps.StampClock())
-            Folder(read_plan_line(SMALL), 1, "f").apply(state)
-            state.by_stamp = Looked()
-            found = []
-            for count, now in ((7, 0), (late, 0), (soon, 0), (0, 2 * DAY), (0, DAY // 4), (0, DAY // 4)):
-                clock[0] = now
-                if count:
-                    Came([put((count, 130), Shape("limit", 0, 0, 5, None, 3))]).apply(state)
-                found.append((state.stamp(state.seats[1])[0], len(looks)))
-        self.assertEqual(found, [(8, 0), (8, 0), (soon + 1, 0), (late + 1, 0), (soon + 1, 1), (soon + 1, 1)])
-
-    def test_clones_that_stamp_in_one_millisecond_differ_in_five_random_bits(self) -> None:
-        with mock.patch("server.journal.stamps.milliseconds", lambda: 1_000):
-            counts = {stamps.StampClock().count_after(7) for _ in range(2_000)}
-        self.assertEqual(counts, set(range(32_000, 32_032)))
-
-    def test_each_number_of_a_window_is_new_once(self) -> None:
-        seen = seals.Seen()
-        order = [*range(10, 20_000, 2), *range(19_999, 18_001, -2)]
-        self.assertTrue(all(map(seen.is_new, order)))
-        self.assertFalse(any(map(seen.is_new, order)))
-        self.assertFalse(seen.is_new(11))
-        self.assertLessEqual(len(seen._numbers), seals.WINDOW + 1)

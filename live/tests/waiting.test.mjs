@@ -28,13 +28,13 @@ async function measured(answer) {
 beforeEach(() => {
   [gestures, curves] = [[], []];
   const layers = new Layers(PLAN, {day: store.day, findCurve: curveAt});
-  Object.assign(store, {plan: PLAN, me: {at: "seat1", number: 65}, layers: {mine: layers}, roads: {mine: new Road("seat1", PLAN.length)}, follows: false,
+  Object.assign(store, {plan: PLAN, me: {at: "seat1", seat: 1}, layers: {mine: layers}, roads: {mine: new Road("seat1", PLAN.length)}, follows: false,
                         curves: new Map(), pending: new Map(), waiting: new Map(), message: ["", false]});
   store.connection = {isAdmitted: true, ask: (command) => new Promise((done) => {
     if (command.admission) curves.push(done);
     if (command.gesture) {
       gestures.push(command.gesture);
-      done({stamp: [gestures.length, 65], touched: null, layers: [], since: 0, next: 0, undo: null, redo: null});
+      done({stamp: [gestures.length, "h65"], touched: null, layers: [], since: 0, next: 0, undo: null, redo: null});
     }
   })};
 });

@@ -14,7 +14,7 @@ from running import HELD_UP, Case, Watched, until
 from working import takes_at_most
 from server.tabs.client import Seat
 from server.journal.keeper import Keeper
-from server.model.operations import About, edit
+from server.model.operations import About, Shape, put
 from server.model.road import Road
 from server.tabs.tabs import Tab, Tabs
 from server.background.watch import SAID, Watch, is_of_server, keep_collections_short
@@ -129,7 +129,8 @@ class Pieces(Case):
         ada, = await here.join("Ada")
         await here.ask(ada, "layers")
         await here.ask(ada, "layers", at="shared")
-        many = [edit((count, 2 * 64 + 1), {("limit", count % 6, count): count % 5}, About("Sam")) for count in range(1, 61)]
+        many = [put(count, Shape("limit", count % 6, count % 6, count, None, count % 5), About("Sam", site="south-00000002"))
+                for count in range(1, 61)]
         added, adding = list[int](), Road.adding
 
         def counted(road: Road, operations: Any) -> Road:

@@ -12,15 +12,16 @@ from typing import Any, Coroutine, Iterator
 from unittest import mock
 
 from faulty import Bus, Disk, Here, soon
+from figures_told import means
 from running import Case, until
 from server.figures import days, figures
 from server.tabs.refusals import Refused
 from server.journal.records import SeatUsed
 from server.journal.journal import Journal
-from server.model.operations import About, Operation, edit
+from server.model.operations import About, Operation, Shape, put
 from server.roads.program import ProgramExited, Program
 from server.background.settings import Settings
-from server.journal.stamps import StampClock
+from server.journal.naming import Counter
 from server.roads.turns import MORE
 
 LIMIT = ["limit", 2, 50]
@@ -229,12 +230,12 @@ class Written(Case):
             may_read.set()
             layers, gestures, figures_of = [await soon(look) for look in looks]
         self.assertEqual((layers["layers"], gestures["operations"]), ([], []))
-        self.assertEqual(figures_of["before"], figures_of["after"])
+        self.assertEqual(*([row[side] for row in figures_of["figures"]] for side in ("before", "after")))
         self.assertEqual(await self.refused(share), "NotWritten")
 
     async def test_operations_of_another_site_are_announced_only_after_they_are_on_the_disk(self) -> None:
         def new_operation() -> Operation:
-            return edit((StampClock().count_after(0), 2 * 64 + 1), {("limit", 2, 50): 3}, About("Sam"))
+            return put(Counter().next(), Shape("limit", 2, 2, 50, None, 3), About("Sam", site="south-00000002"))
         lab = self.here.lab
         for fault, size in ((errno.EIO, 0), (None, 1)):
             self.release_disk()
@@ -274,15 +275,14 @@ class Written(Case):
                 self.assertEqual([look for look in looks if look.done()], [])
                 self.release_disk(fault)
                 day, days = [await soon(look) for look in looks]
-            before, after = (day[side]["detectors"][0][0] for side in ("before", "after"))
-            cars = next(one for one in days["figures"] if one["name"] == "cars 0")
+            before, after = ([means(said, side, "cars", None, 0) for said in (day, days)] for side in ("before", "after"))
             if fault:
                 self.assertEqual(await self.refused(share), "NotWritten")
-                self.assertEqual((before, cars["before"]), (after, cars["after"]))
+                self.assertEqual(before, after)
             else:
                 await soon(share)
-                self.assertEqual((before, cars["before"]), (0, [0, 0]))
-            self.assertGreater(min(after, cars["after"][0]), 0)
+                self.assertEqual(before, [[0, None], [0, 0]])
+            self.assertGreater(min(mean or 0 for mean, _ in after), 0)
 
     async def test_the_roads_of_a_preview_are_computed_once_they_are_on_the_disk(self) -> None:
         await self.here.put(self.ada, [*LIMIT, 3])
@@ -412,7 +412,7 @@ class Stalled(Case):
             self.enterContext(mock.patch(f"server.journal.keeper.{name}", seconds))
         for module in ("tabs.seating", "journal.timing"):
             self.enterContext(mock.patch(f"server.{module}.A_MOMENT", 0.2))
-        self.here = await self.enterAsyncContext(Here(site=1))
+        self.here = await self.enterAsyncContext(Here(site="north"))
         self.keeper = self.here.keeper
         self.told: list[Any] = []
         self.keeper.listeners.trouble.on(lambda: self.told.append(self.keeper.trouble))
@@ -490,7 +490,7 @@ class Stalled(Case):
 
     async def test_readers_of_the_shared_road_go_on_while_a_share_is_pending(self) -> None:
         bus = Bus()
-        there = await self.enterAsyncContext(Here(site=2))
+        there = await self.enterAsyncContext(Here(site="south"))
         first, second = bus.site(self.here), bus.site(there)
         await bus.rounds(2)
         await self.here.put(self.ada, ["limit", 3, 70, 4])
@@ -506,10 +506,10 @@ class Stalled(Case):
         await soon(first.announce())
         first._send_missing("another", [(None, "")], "")
         told = [one for one in bus.sent if one.topic.endswith("operations")]
-        self.assertEqual([len(json.loads(one.payload)["operations"]) for one in told], [2])  # what is on the disk
+        self.assertEqual([len(json.loads(one.payload.partition(b"\n")[2])["operations"]) for one in told], [2])  # what is on the disk
         bus.sent = [one for one in bus.sent if one not in told]
         await soon(bus.carry())
-        self.assertEqual([one["site"] for one in second.state()["sites"]], [1])  # the change is there all the same
+        self.assertEqual([one["site"] for one in second.state()["sites"]], [self.here.lab.state.site])  # the change is there all the same
         self.assertEqual(there.lab.state.shared.size, 2)
         self.assertEqual([one for one in (share, layers) if one.done()], [])
         self.held.set()

@@ -6,6 +6,7 @@ import re
 from typing import Any
 
 from faulty import Here, soon
+from figures_told import value
 from running import SMALL, Case
 from server.tabs.refusals import Refused
 
@@ -14,9 +15,9 @@ ASKED = {"of": "mine", "title": "The road of <Ada>: 0:01:00 to 0:10:00", "works"
 
 
 def rows_of(page: str) -> dict[str, list[str]]:
-    """Return the lines of its table of figures."""
+    """Return the lines of its table of figures, by their names without a bound."""
     found = re.findall(r"<tr>(<td>.*?)</tr>", page)
-    return {html.unescape(cells[0]): cells[1:] for cells in (re.findall(r"<td>(.*?)</td>", line) for line in found)}
+    return {re.sub(r" \((at least|at most|unknown)\)$", "", html.unescape(cells[0])): cells[1:] for cells in (re.findall(r"<td>(.*?)</td>", line) for line in found)}
 
 
 class Reports(Case):
@@ -30,13 +31,16 @@ class Reports(Case):
             figures = await soon(here.ask(seat, "figures", of="mine", **SPAN))
             rows = rows_of(page)
             for name, digits, values in (
-                    ("vehicle hours on the road", 2, [figures[side]["vehicle_hours"] for side in ("before", "after")]),
-                    ("lost demand, cars", 0, [sum(figures[side]["lost"]) for side in ("before", "after")]),
-                    ("km 0.825: cars/h", 0, [figures[side]["flows"][2]["flow"] for side in ("before", "after")])):
+                    ("vehicle hours on the road", 2, [value(figures, side, "hours") for side in ("before", "after")]),
+                    ("lost demand, cars", 0, [value(figures, side, "lost") for side in ("before", "after")]),
+                    ("km 0.825: cars/h", 0, [value(figures, side, "flow", None, 2) for side in ("before", "after")])):
                 shared, _, mine, _, *_ = rows[name]
-                self.assertEqual([shared, mine], [f"{value:,.{digits}f}" for value in values], name)
-            self.assertEqual(rows["delay, vehicle hours"][4], f"{figures['delay_hours']:.2f}")
-            self.assertEqual(figures["after"]["flows"][2]["on"], 340)
+                self.assertEqual([shared, mine], [f"{one:,.{digits}f}" for one in values], name)
+            hours, = (row for row in figures["figures"] if row["figure"]["key"] == "hours")
+            self.assertIn(f"vehicle hours on the road ({hours['bound']})", page)
+            self.assertIn("Cars that cannot enter are lost: ", page)
+            self.assertEqual(rows["delay, vehicle hours"][4], f"{value(figures, 'difference', 'delay'):.2f}")
+            self.assertEqual(value(figures, "after", "on", None, 2), 340)
 
     async def test_a_report_is_self_contained_and_escapes_what_users_wrote(self) -> None:
         async with Here() as here:

@@ -1,6 +1,4 @@
-"""Compute the figures of two roads in a window: vehicle hours, delay, travel times, demand and detectors.
-
-The package zegdrut computes all of them; its modules `trips` and `lost` define what they mean.
+"""Measure the figures of two roads in a window. They are the rows of the table of `zegdrut.figures`, which names and defines them.
 
 As a child, this module answers a `FiguresAsked` with the figures of the steps `first` to `last` - 1; or with {"done": step}, if it has
 only read up to that step after `seconds`. A road stays in its slot, so the next question about it only reads rows that are new or that
@@ -14,11 +12,16 @@ from collections import OrderedDict
 from typing import Iterator, Mapping, Sequence, TypedDict
 
 from zegdrut import Edit, RoadLab
-from zegdrut.figures.lost import AskedRates, compute_demands, compute_supplies
-from zegdrut.figures.trips import (DetectorCount, TravelTime, Trips, Window, compare_trips, compute_travel_times,
-                                   compute_travel_times_by_entry, compute_vehicle_hours, count_admitted_cars, count_seconds_on)
-from zegdrut.program.wire import PlanLine, WrittenEdit
-from zegdrut.roads.demand import Rates
+from zegdrut.figures import Figure, FigureRow, RoadRun, compare, list_figures, measure_day
+from zegdrut.figures.lost import AskedRates, compute_demands
+from zegdrut.figures.queues import is_of_free_road, with_lost
+from zegdrut.figures.simulation import read_counts
+from zegdrut.figures.trips import DetectorCount, Trips, Window, compute_travel_times_by_entry
+from zegdrut.program.scripts import Script
+from zegdrut.program.wire import Fields, PlanLine, WrittenEdit
+from zegdrut.reports.report import Side
+from zegdrut.roads.units import to_km
+from zegdrut.roads.waiting import find_arrivals
 
 from ..model.projection import Edits
 from ..roads.program import import_lines
@@ -26,34 +29,36 @@ from ..roads.screen import first_step, rows_of
 from ..tabs.refusals import Refused
 from . import child
 
+KEYS = ("delay", "delay at", "hours", "demand", "demand at", "admitted", "admitted at", "lost", "lost at", "travel", "cars", "flow", "speed", "on")
+"""The figures that live has; the table has their order."""
 SECONDS = 60.0  # seconds for a question; the next one resumes where this one stopped
 STEPS_AT_ONCE = 1_920  # steps that are read at a time
 MOST_FIGURE_ROADS = 12  # roads that are kept
 NICE = 5  # below editing, above what takes longer
-SIDES = "before", "after"
 ENTRY = 60  # steps: travel times are grouped by the minute in which the cars entered
-
 
 TwoDemands = TypedDict("TwoDemands", {"before": Sequence[AskedRates], "after": Sequence[AskedRates]})
 """The demands that were asked for on two roads, by inlet."""
 TwoRoads = TypedDict("TwoRoads", {
     "plan": PlanLine, "before": Sequence[WrittenEdit], "after": Sequence[WrittenEdit], "demands": TwoDemands, "first": int,
-    "last": int, "program": str})
-"""Two roads and a window: their plan, edits and demands, the steps `first` to `last` - 1, and the path of road_lab."""
+    "last": int, "program": str, "names": Sequence[str]})
+"""Two roads and a window: their plan, edits and demands, the steps `first` to `last` - 1, the path of road_lab, and the roads' names."""
 FiguresAsked = TypedDict("FiguresAsked", {"roads": TwoRoads, "slots": Sequence[str], "seconds": float})
 """A question: two roads, the slot of each, and the seconds that the answer may take."""
 DetectorFigures = TypedDict("DetectorFigures", {"cars": int, "speeds": int, "flow": "float | None", "speed": "float | None", "on": int})
 """What a detector counted: cars, the sum of their speeds in cells per step, flow in cars per hour, mean speed in km/h; and for how
 many seconds it was on."""
-MeanTimes = Sequence[Sequence["float | None"]]
-"""For each detector, and last for the road's end, the number of cars and their mean seconds."""
-RoadFigures = TypedDict("RoadFigures", {
-    "detectors": Sequence[Sequence[int]], "flows": Sequence[DetectorFigures], "asked": Sequence[float], "entered": Sequence[int],
-    "lost": Sequence[float], "scatter": Sequence[float], "vehicle_hours": float, "travel": MeanTimes, "travel_by_entry": Mapping[str, MeanTimes]})
-"""The figures of a road. `asked`, `entered`, `lost` and `scatter` are numbers of cars for each inlet."""
-FiguresTold = TypedDict("FiguresTold", {
-    "done": int, "before": RoadFigures, "after": RoadFigures, "delay_hours": float, "delayed": int, "later": MeanTimes}, total=False)
-"""The figures of both roads, and what the change costs; or in `done` the step up to which the roads have been read."""
+Head = TypedDict("Head", {"key": str, "of": "Sequence[int | None]", "label": str, "unit": str, "title": str, "digits": int})
+"""A figure: its key, the indexes of its inlet and its detector, its name without and with its unit, and its decimals."""
+Mean = Sequence["float | None"]
+"""A mean, and the half-width of its interval; None if it is unknown. One day has no interval."""
+Row = TypedDict("Row", {"figure": Head, "before": Mean, "after": Mean, "difference": Mean, "bound": str, "words": str})
+"""A figure of two roads. `bound` says how the true one relates to it, such as "at least", and `words` is a sentence that it needs."""
+MeanTimes = Mapping[str, Sequence["tuple[int, float | None]"]]
+"""By the first step of a minute of entry: for each detector, and last for the road's end, the number of cars and their mean seconds."""
+TwoTimes = TypedDict("TwoTimes", {"before": MeanTimes, "after": MeanTimes})
+FiguresTold = TypedDict("FiguresTold", {"done": int, "figures": Sequence[Row], "entries": TwoTimes}, total=False)
+"""The figures of two roads and their travel times; or in `done` the step up to which the roads have been read."""
 
 
 class Figures(child.Child[FiguresAsked, FiguresTold]):
@@ -71,7 +76,47 @@ class Figures(child.Child[FiguresAsked, FiguresTold]):
         return said
 
 
-# The child
+def list_of_live(plan: PlanLine) -> list[Figure]:
+    """Return the figures that live has of a road."""
+    return [figure for figure in list_figures(plan) if figure.key in KEYS]
+
+
+def write_head(figure: Figure) -> Head:
+    """Return a figure in the form of a reply."""
+    return {"key": figure.key, "of": list(figure.of), "label": figure.label, "unit": figure.unit, "title": figure.title, "digits": figure.digits}
+
+
+def list_heads(plan: PlanLine) -> list[Head]:
+    """Return the figures that live has of a road in the form of a welcome."""
+    return [write_head(figure) for figure in list_of_live(plan)]
+
+
+def write_rows(rows: Sequence[FigureRow], roads: TwoRoads) -> list[Row]:
+    """Return figures in the form of a reply. They say which of them need a word: a detector was off for a while, or a road loses cars."""
+    of_key = {(row.figure.key, *row.of): row for row in rows}
+    places = [(f"km {to_km(cell):g}", of_key.get(("lost at", inlet, None)) or of_key["lost", None, None])
+              for inlet, (cell, _) in enumerate(roads["plan"]["inlets"])]
+    lost = [{place: getattr(row, side).mean or 0.0 for place, row in places} for side in ("before", "after")]
+    return [{"figure": write_head(row.figure), "before": list(row.before), "after": list(row.after), "difference": list(row.difference),
+             "bound": row.bound, "words": row.words or describe_off(row, of_key.get(("on", *row.of)), roads["last"] - roads["first"])}
+            for row in with_lost(rows, roads["names"], lost)]
+
+
+def describe_off(row: FigureRow, on: FigureRow | None, steps: int) -> str:
+    """Return a sentence if a detector was off for a part of some steps. `on` is the time in which the detector of a row was on."""
+    were_off = [] if on is None else [(mean or 0) < steps for mean, _ in (on.before, on.after)]
+    if row.figure.key not in ("cars", "flow", "speed") or not any(were_off):
+        return ""
+    place = row.figure.label.partition(":")[0].removeprefix("cars at ")
+    return f"The detector at {place} was off for a part of the time on {'both roads' if all(were_off) else 'one of the roads'}."
+
+
+def detector_figures(one: DetectorCount) -> DetectorFigures:
+    """Return a detector's count in the form of a reply."""
+    return {"cars": one.cars, "speeds": one.speeds, "flow": one.flow, "speed": one.time_mean_speed, "on": one.seconds_on}
+
+
+# In the child
 
 class DrivenRoad:
     """A road that is simulated and read step by step, and whose edits can be replaced."""
@@ -80,11 +125,7 @@ class DrivenRoad:
         self.plan, self.lab, self.trips = plan, RoadLab(plan), Trips(plan, plan["detectors"])
         self._edits: Edits = {}
         self._count = 0
-
-    @property
-    def edits(self) -> list[Edit]:
-        """Return its edits in the form of the package zegdrut."""
-        return [Edit.read(row) for row in rows_of(self._edits)]
+        self._arrivals: tuple[object, dict[int, list[int]]] = (None, {})
 
     def become(self, rows: Sequence[WrittenEdit]) -> None:
         """Replace all edits by these rows of an import."""
@@ -97,25 +138,21 @@ class DrivenRoad:
                 self.lab.ask(line)
             self.trips.rewind(first)
 
-    def read(self, to: int, until: float = math.inf) -> None:
+    def read(self, to: int, until: float) -> None:
         """Simulate and read the road up to a row, or until the monotonic clock passes `until`."""
         while self.trips.horizon < to and time.monotonic() < until:
             end = min(to, self.trips.horizon + STEPS_AT_ONCE)
             self.lab.command("advance", "road", to=end)
             self.trips.follow(self.lab, "road", end)
 
-    def compute_figures(self, demands: Sequence[Rates], window: Window) -> RoadFigures:
-        """Return its figures in a window; `demands` are those of the inlets."""
-        supplies, edits = compute_supplies(demands, count_admitted_cars(self.trips, window), window), self.edits
-        counts = [detector_figures(DetectorCount(*self.lab.count("road", detector, *window), count_seconds_on(edits, detector, window),
-                                                 window.steps)) for detector in range(len(self.plan["detectors"]))]
-        by_entry = compute_travel_times_by_entry(self.trips, window, ENTRY)
-        return {"detectors": [[one["cars"], one["speeds"]] for one in counts], "flows": counts,
-                "asked": [one.demand for one in supplies], "entered": [one.admitted for one in supplies],
-                "lost": [one.lost for one in supplies], "scatter": [one.scatter for one in supplies],
-                "vehicle_hours": compute_vehicle_hours(self.trips, window),
-                "travel": travel_times(compute_travel_times(self.trips, window)),
-                "travel_by_entry": {str(step): travel_times(times) for step, times in by_entry.items()}}
+    def run_of(self, side: Side, window: Window) -> RoadRun:
+        """Return its run in a window; `side` is the same road as a script."""
+        assert side.free is not None
+        key = side.free.commands, side.script is side.free
+        if self._arrivals[0] != key:
+            self._arrivals = key, find_arrivals(side.script, side.free, window.last)
+        return RoadRun(self.trips, window, read_counts(self.lab, "road", range(len(self.plan["detectors"])), [window]), side.demands,
+                       arrivals=self._arrivals[1])
 
 
 def edits_of(rows: Sequence[WrittenEdit]) -> Edits:
@@ -123,19 +160,24 @@ def edits_of(rows: Sequence[WrittenEdit]) -> Edits:
     return {(kind, index, step): value for kind, index, step, *_, value in rows if value is not None}
 
 
-def detector_figures(one: DetectorCount) -> DetectorFigures:
-    """Return a detector's count in the form of a reply."""
-    return {"cars": one.cars, "speeds": one.speeds, "flow": one.flow, "speed": one.time_mean_speed, "on": one.seconds_on}
+def sides_of(roads: TwoRoads) -> list[Side]:
+    """Return the roads before and after the change as scripts, with their demands. Cars that cannot enter are lost."""
+    found, last, plan = [], roads["last"], roads["plan"].copy()
+    plan["replicas"] = ["A"]
+    advance: Fields = {"advance": {"at": "A", "to": last}}
+    for rows, known, name in zip((roads["before"], roads["after"]), (roads["demands"]["before"], roads["demands"]["after"]), roads["names"]):
+        edits = [Edit.read(row) for row in rows_of(dict(sorted(edits_of(rows).items())))]
+        of_free = [edit for edit in edits if is_of_free_road(edit)]
+        free = Script(plan, [*({"edit": {"at": "A", "object": list(edit.object), "step": edit.step, "value": edit.value}} for edit in of_free), advance])
+        script = free if len(of_free) == len(edits) else Script(plan, [*import_lines("A", rows_of(edits_of(rows))), advance])
+        found.append(Side(name, script, compute_demands(plan, edits, last, asked=known), free, waits=False))
+    return found
 
 
-def travel_times(times: Sequence[TravelTime]) -> MeanTimes:
-    """Return travel times in the form of a reply."""
-    return [[one.cars, one.mean] for one in times]
-
-
-def both_sides(roads: TwoRoads) -> list[tuple[Sequence[WrittenEdit], Sequence[AskedRates]]]:
-    """Return the edits and the demands of the roads before and after the change."""
-    return [(roads["before"], roads["demands"]["before"]), (roads["after"], roads["demands"]["after"])]
+def times_by_entry(run: RoadRun) -> MeanTimes:
+    """Return the travel times of a road by the minute of entry."""
+    return {str(step): [(one.cars, one.mean) for one in times]
+            for step, times in compute_travel_times_by_entry(run.trips, run.window, ENTRY).items()}
 
 
 class Roads:
@@ -157,21 +199,20 @@ class Roads:
 
     def answer(self, asked: FiguresAsked) -> Iterator[FiguresTold]:
         """Yield the figures of two roads, or up to which step they have been read."""
-        both, window = asked["roads"], Window(asked["roads"]["first"], asked["roads"]["last"])
-        until = time.monotonic() + asked["seconds"]
-        roads, sides = [self.road(slot, both["plan"]) for slot in asked["slots"]], both_sides(both)
-        for road, (edits, _) in zip(roads, sides):
+        both, until = asked["roads"], time.monotonic() + asked["seconds"]
+        window = Window(both["first"], both["last"])
+        roads = [self.road(slot, both["plan"]) for slot in asked["slots"]]
+        for road, edits in zip(roads, (both["before"], both["after"])):
             road.become(edits)
             road.read(window.last, until)
         done = min(road.trips.horizon for road in roads)
         if done < window.last:
             yield {"done": done}
             return
-        before, after = (road.compute_figures(compute_demands(road.plan, road.edits, window.last, asked=known), window)
-                         for road, (_, known) in zip(roads, sides))
-        found = compare_trips(roads[0].trips, roads[1].trips, window)
-        yield {"before": before, "after": after, "delay_hours": found.delay_hours, "delayed": found.cars,
-               "later": travel_times(found.at_sites)}
+        before, after = (road.run_of(side, window) for road, side in zip(roads, sides_of(both)))
+        figures = list_of_live(both["plan"])
+        yield {"figures": write_rows(compare(figures, [measure_day(figures, before, after)]), both),
+               "entries": {"before": times_by_entry(before), "after": times_by_entry(after)}}
 
 
 if __name__ == "__main__":

@@ -6,11 +6,8 @@ from __future__ import annotations
 
 from typing import Iterator, Sequence, TypedDict
 
-from zegdrut import Edit
-from zegdrut.figures.lost import compute_demands
 from zegdrut.figures.trips import Window
-from zegdrut.program.scripts import Script
-from zegdrut.program.wire import Fields, PlanLine
+from zegdrut.program.wire import PlanLine
 from zegdrut.reports.report import Side, make_table, run_sides
 from zegdrut.reports.report_page import Contents, draw_demands, format_page
 from zegdrut.roads.clock import Clock
@@ -18,17 +15,15 @@ from zegdrut.roads.demand import Rates
 from zegdrut.roads.units import ALWAYS, KMH, to_km
 
 from ..model.projection import Edits
-from ..roads.program import import_lines
-from ..roads.screen import rows_of
 from . import child
-from .figures import TwoRoads, both_sides, edits_of
+from .figures import TwoRoads, edits_of, sides_of
 
 DAYS = 5
 NICE = 8
 MOST_DATES = 12  # changes of a demand that a sentence lists; if there are more, the chart shows them
 ReportAsked = TypedDict("ReportAsked", {
-    "roads": TwoRoads, "title": str, "works": Sequence[str], "names": Sequence[str], "clock": Sequence["str | None"], "days": int})
-"""Two roads and their names, sentences about the change, the begin, date and time zone of the road's file, and the number of days."""
+    "roads": TwoRoads, "title": str, "works": Sequence[str], "clock": Sequence["str | None"], "days": int})
+"""Two roads, sentences about the change, the begin, date and time zone of the road's file, and the number of days."""
 ReportTold = TypedDict("ReportTold", {"html": str})
 
 
@@ -43,18 +38,6 @@ async def make_report(index: int, asked: ReportAsked) -> ReportTold:
 
 
 # In the child
-
-def sides_of(asked: ReportAsked) -> list[Side]:
-    """Return the roads before and after the change."""
-    found, last = [], asked["roads"]["last"]
-    plan = asked["roads"]["plan"].copy()
-    plan["replicas"] = ["A"]
-    for (edits, known), name in zip(both_sides(asked["roads"]), asked["names"]):
-        rows = rows_of(dict(sorted(edits_of(edits).items())))
-        lines: list[Fields] = [*import_lines("A", rows), {"advance": {"at": "A", "to": last}}]
-        found.append(Side(name, Script(plan, lines), compute_demands(plan, [Edit.read(row) for row in rows], last, asked=known)))
-    return found
-
 
 def closures_of(edits: Edits, last: int) -> list[tuple[int, int, float, float]]:
     """Return the closures of a road, as (from step, to step, from km, to km). Neighbouring cells are one closure."""
@@ -125,8 +108,8 @@ def make_page(asked: ReportAsked) -> Iterator[ReportTold]:
     roads = asked["roads"]
     window, plan = Window(roads["first"], roads["last"]), roads["plan"]
     clock, seed = Clock.read(*asked["clock"]), plan["words"]
-    closed = [closures_of(edits_of(edits), window.last) for edits, _ in both_sides(roads)]
-    sides = sides_of(asked)
+    closed = [closures_of(edits_of(edits), window.last) for edits in (roads["before"], roads["after"])]
+    sides = sides_of(roads)
     if edits_of(roads["before"]) == edits_of(roads["after"]):  # one road
         del sides[0], closed[0]
     days = run_sides(sides, [seed] if not isinstance(seed, int) else list(range(seed, seed + asked["days"])), window)

@@ -15,6 +15,7 @@ from typing import Iterator, Mapping
 
 from ..model.operations import Json
 
+JOURNAL = "journal.jsonl"
 JournalLine = Mapping[str, Mapping[str, Json]]
 """The kind of an entry, and its fields."""
 SUM = 18  # bytes of a checksum at the end of a line
@@ -73,6 +74,14 @@ class Entries:
         *lines, rest = behind.split(b"\n")
         could = [line.rpartition(b"\0")[2], *lines]
         return bool(rest or b"\0" in line) and not any(is_confirmed_before(self._path, one) for one in could)
+
+
+def form_of(folder: Path) -> Json:
+    """Return the form of a folder's journal; None if it has no journal that can be read."""
+    try:
+        return next((entry.get("lab", {}).get("form") for entry in Entries(folder / JOURNAL)), None)
+    except (CorruptJournal, OSError):
+        return None
 
 
 def read_entries(path: Path, size: int | None = None) -> tuple[list[JournalLine], int]:

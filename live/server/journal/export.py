@@ -17,15 +17,14 @@ from zegdrut.program.wire import PlanLine
 from zegdrut.roads.clock import Clock
 from zegdrut.roads.units import KMH, to_km
 
-from ..model.operations import SEATS, Json, Unreadable
-from ..model.reading import read_stamp
+from ..model.operations import Json, Operation, Shape, Stamp, Unreadable, describe_act
 from ..roads import plans
 from .journal import JOURNAL, CannotStart, Entries, to_json
 from .state import NO_PLAN, State
 
 Row = tuple["int | float | str | None", ...]
 SCHEMA = """
-CREATE TABLE operations (stamp TEXT PRIMARY KEY, count INTEGER, site INTEGER, seat INTEGER, who TEXT, note TEXT, made TEXT, does TEXT,
+CREATE TABLE operations (stamp TEXT PRIMARY KEY, count INTEGER, site TEXT, seat INTEGER, who TEXT, note TEXT, made TEXT, does TEXT,
                          undoes TEXT, shared INTEGER, json TEXT);
 CREATE TABLE shapes (stamp TEXT REFERENCES operations, layer TEXT, kind TEXT, first INTEGER, last INTEGER, begin INTEGER, end INTEGER,
                      value INTEGER, what TEXT, from_km REAL, to_km REAL, from_time TEXT, to_time TEXT);
@@ -38,29 +37,41 @@ CREATE VIEW changes AS
 PERCENT = 100 / 65_536  # of a chance
 
 
+class Held(NamedTuple):
+    """An operation, whether it is shared, and the seat that made it, if that is known."""
+
+    operation: Operation
+    is_shared: bool
+    seat: int | None
+
+
 class Tables(NamedTuple):
-    """The contents of the tables: the plan, the road's time of day, operations with `shared`, and the rows of seats and shares."""
+    """The contents of the tables: the plan, the road's time of day, operations, and the rows of seats and shares."""
 
     plan: PlanLine
     clock: Clock
-    site: int
-    operations: Sequence[Mapping[str, Json]]
+    operations: Sequence[Held]
     seats: Sequence[Row]
     shares: Sequence[Row]
 
 
-def read_folder(folder: Path) -> Tables:
-    """Return all changes of a folder, which no server uses. Raise `CannotStart` if its journal cannot be read."""
+def read_state(folder: Path) -> State:
+    """Return the state of a folder, which no server uses. Raise `CannotStart` if its journal cannot be read."""
     state = State()
     for entry in Entries(folder / JOURNAL):
         state.read(entry)
     if state.plan is NO_PLAN:
         raise CannotStart(f"{folder} has no journal: give the folder of a server")
+    return state
+
+
+def read_folder(folder: Path) -> Tables:
+    """Return all changes of a folder, which no server uses. Raise `CannotStart` if its journal cannot be read."""
+    state = read_state(folder)
     held = dict.fromkeys([*state.shared.places, *(one for seat in state.seats for one in seat.own)])
-    operations: list[dict[str, Json]] = [{**one.written(), **{"shared": one in state.shared.places}} for one in held
-                                         if not isinstance(one, Unreadable)]
+    operations = [Held(one, one in state.shared.places, state.makers.get(one)) for one in held if not isinstance(one, Unreadable)]
     seats = [(seat.index, seat.name, len(seat.shareable())) for seat in state.seats[1:] if seat.key]
-    return Tables(state.plan, plans.clock_of(folder) or Clock(), state.site, operations, seats,
+    return Tables(state.plan, plans.clock_of(folder) or Clock(), operations, seats,
                   [share_row(one.reply_fields()) for one in state.shares])
 
 
@@ -72,12 +83,12 @@ def share_row(share: Mapping[str, Json]) -> Row:
 def write_tables(path: Path, tables: Tables) -> None:
     """Write a new file that only its owner may read. Raise FileExistsError if there is one already."""
     os.close(os.open(path, os.O_CREAT | os.O_EXCL | os.O_WRONLY, 0o600))
-    by_stamp = {stamp_text(one["stamp"]): one for one in tables.operations}
+    by_stamp = {one.operation.stamp: one.operation for one in tables.operations}
     try:
         with contextlib.closing(sqlite3.connect(path)) as database, database:
             database.executescript(SCHEMA)
-            write_rows(database, "operations", (operation_row(one, tables.site, by_stamp) for one in tables.operations))
-            write_rows(database, "shapes", (row for one in tables.operations for row in shape_rows(one, tables)))
+            write_rows(database, "operations", (operation_row(one, by_stamp) for one in tables.operations))
+            write_rows(database, "shapes", (shape_row(one.operation, tables) for one in tables.operations if one.operation.sets))
             write_rows(database, "seats", tables.seats)
             write_rows(database, "shares", tables.shares)
     except BaseException:
@@ -90,53 +101,29 @@ def write_rows(database: sqlite3.Connection, table: str, rows: Iterator[Row] | S
         database.execute(f"INSERT INTO {table} VALUES ({','.join('?' * len(row))})", row)
 
 
-def operation_row(one: Mapping[str, Json], site: int, by_stamp: Mapping[str, Mapping[str, Json]]) -> Row:
-    count, number = read_stamp(one["stamp"])
-    undone = stamp_text(one["undoes"]) if "undoes" in one else None
-    written = {name: value for name, value in one.items() if name != "shared"}
-    return (stamp_text(one["stamp"]), count, number // SEATS, number % SEATS if number // SEATS == site else None, str(one.get("who", "")),
-            str(one.get("note", "")), utc_text(one.get("when")), describe_act(one, by_stamp.get(undone or "")), undone,
-            int(one["shared"] is True), to_json(written))
+def operation_row(held: Held, by_stamp: Mapping[Stamp, Operation]) -> Row:
+    one, about = held.operation, held.operation.about
+    undone = None if one.undoes is None else by_stamp.get(one.undoes)
+    return (stamp_text(one.stamp), one.stamp[0], one.site, held.seat, about.who, about.note, utc_text(about.when), describe_act(one, undone),
+            None if one.undoes is None else stamp_text(one.undoes), int(held.is_shared), to_json(one.written()))
 
 
-def describe_act(one: Mapping[str, Json], undone: Mapping[str, Json] | None) -> str:
-    """Return what an operation does, in a word of live/PROTOCOL.md. `undone` is what it undoes, if that is known."""
-    if "undoes" in one:
-        return "redo" if undone is not None and "undoes" in undone else "undo"
-    excludes = one.get("excludes")
-    if isinstance(excludes, list):
-        return "exclude" if excludes[1] is True else "include"
-    sets = pairs_of(one.get("sets"))
-    if not sets:
-        return "top"
-    if any(name == one["stamp"] for name, _ in sets):
-        return "put"
-    if all(value is None for _, value in sets):
-        return "withdraw"
-    return "edits" if any(is_raw(name) for name, _ in sets) else "change"
+def shape_row(one: Operation, tables: Tables) -> Row:
+    """Return the row of the layer that an operation sets."""
+    names = stamp_text(one.stamp), stamp_text(one.line or one.stamp)
+    if one.shape is None:
+        return *names, *[None] * 6, "withdrawn", *[None] * 4
+    kind, first, last, begin, end, value = one.shape
+    return (*names, kind, first, last, begin, end, value[0] if isinstance(value, tuple) else value,
+            describe_value(one.shape, one.about.more.get("demand")), *find_places(tables.plan, kind, first, last),
+            tables.clock.to_date_text(begin), None if end is None else tables.clock.to_date_text(end))
 
 
-def shape_rows(one: Mapping[str, Json], tables: Tables) -> Iterator[Row]:
-    """Yield a row for each layer that an operation sets."""
-    for name, value in pairs_of(one.get("sets")):
-        shape = [name[0], name[1], name[1], name[2], None, value] if is_raw(name) and isinstance(name, list) else value
-        layer = ".".join(map(str, name)) if isinstance(name, list) else None
-        if value is None or not isinstance(shape, list):
-            yield stamp_text(one["stamp"]), layer, *[None] * 6, "withdrawn", *[None] * 4
-        else:
-            yield stamp_text(one["stamp"]), layer, *shape_columns(shape, one.get("demand"), tables)
-
-
-def shape_columns(shape: Sequence[Json], demand: Json, tables: Tables) -> Row:
-    kind, first, last, begin, end, value = shape
-    assert isinstance(kind, str) and isinstance(first, int) and isinstance(last, int) and isinstance(begin, int) and isinstance(value, int)
-    until = end if isinstance(end, int) else None
-    return (kind, first, last, begin, until, value, describe_value(kind, value, demand), *find_places(tables.plan, kind, first, last),
-            tables.clock.to_date_text(begin), None if until is None else tables.clock.to_date_text(until))
-
-
-def describe_value(kind: str, value: int, demand: Json) -> str:
+def describe_value(shape: Shape, demand: Json) -> str:
     """Return a value as `live/road NAME put` prints it."""
+    kind, value = shape.kind, shape.value
+    if isinstance(value, tuple):
+        return f"capacity {value[0]} cars/h"
     if kind == "block":
         return "closed" if value else "open"
     if kind == "watch":
@@ -160,17 +147,8 @@ def find_places(plan: PlanLine, kind: str, first: int, last: int) -> tuple[float
     return to_km(first * plan["zone"]), to_km(min((last + 1) * plan["zone"], plan["length"]))
 
 
-def pairs_of(value: Json) -> list[tuple[Json, Json]]:
-    return [(pair[0], pair[1]) for pair in value if isinstance(pair, list)] if isinstance(value, list) else []
-
-
-def is_raw(name: Json) -> bool:
-    """Return whether a layer is that of a raw edit."""
-    return isinstance(name, list) and len(name) == 3
-
-
-def stamp_text(stamp: Json) -> str:
-    return ".".join(map(str, read_stamp(stamp)))
+def stamp_text(stamp: Stamp) -> str:
+    return ".".join(map(str, stamp))
 
 
 def utc_text(when: Json) -> str | None:

@@ -25,10 +25,10 @@ import time
 from pathlib import Path
 from typing import Callable, Iterable, Iterator, ParamSpec, TypeVar
 
-from .entries import CannotStart as CannotStart, CorruptJournal as CorruptJournal, Entries as Entries, JournalLine as JournalLine
+from .entries import JOURNAL as JOURNAL, CannotStart as CannotStart, CorruptJournal as CorruptJournal, Entries as Entries
+from .entries import JournalLine as JournalLine, form_of as form_of
 from .entries import journal_line as journal_line, to_json as to_json, read_entries as read_entries
 
-JOURNAL = "journal.jsonl"
 WRITTEN_AT_ONCE = 1_000
 ROOM = 262_144  # bytes that must fit on the disk before it counts as writable; no gesture is longer
 NICE = 5  # the priority of the process that shortens a journal, below editing
@@ -60,8 +60,8 @@ def explain_fault(fault: OSError) -> str:
 
 @contextlib.contextmanager
 def lock(folder: Path) -> Iterator[None]:
-    """Lock a folder, since two servers there would issue the same stamps. Raise `CannotStart` if another server has locked it. The
-    journal is locked, too, in case somebody removes the file `lock`."""
+    """Lock a folder, since a journal has one writer. Raise `CannotStart` if another server has locked it. The journal is locked, too, in
+    case somebody removes the file `lock`."""
     with contextlib.ExitStack() as files:
         try:
             file = files.enter_context(open(folder / "lock", "a", encoding="ascii"))

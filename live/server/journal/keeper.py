@@ -11,8 +11,6 @@ import contextlib
 import hashlib
 import json
 import logging
-import os
-import secrets
 import time
 from pathlib import Path
 from typing import Awaitable, Callable, Iterable, Mapping, TypeVar, Union
@@ -28,9 +26,9 @@ from ..roads.program import ProgramExited, Program, Times, command_of, start
 from ..roads.screen import Differences, Screen
 from ..roads.turns import MORE, Job, More, Turns
 from ..tabs.refusals import Refused
-from .journal import CannotStart, CorruptJournal, Entries, JournalLine, Journal, NotWritten, explain_fault, to_json, put_in_place, sync_folder
-from .records import JOURNAL_FORM, AnyEntry, Clock, Folder, Made, Upgraded, read_plan_line
-from .stamps import StampClock
+from .journal import CannotStart, CorruptJournal, Entries, JournalLine, Journal, NotWritten, explain_fault, to_json
+from .naming import Counter, is_called, new_site
+from .records import JOURNAL_FORM, AnyEntry, Clock, Folder, Made, read_plan_line, write_entry
 from .state import NO_PLAN, State
 
 MOST_UNDOABLE = 20  # newest private operations of a seat, which are never forgotten
@@ -57,8 +55,8 @@ class Keeper:
 
     def __init__(self, folder: Path, program: str, settings: Settings) -> None:
         self.folder, self.path, self.settings = folder, program, settings
-        self.stamps = StampClock(settings.milliseconds)
-        self.state = State(self.stamps, time.time_ns() // 1_000)
+        self.counter = Counter(settings.milliseconds)
+        self.state = State(self.counter, time.time_ns() // 1_000)
         self.target_steps: dict[int, int] = {}  # by replica: the step up to which it shall be simulated
         self.connected: set[int] = set()  # seats with a tab
         self.turns = Turns(self._with_program, may_be_within=lambda: self.journal.failures == self._forgotten)
@@ -71,7 +69,6 @@ class Keeper:
         self.confirmed = 0  # how many of the shared operations are on the disk; nobody is shown the others
         self._forgotten = 0  # the number of failed writes after which the state was read again from the disk
         self.clock_started = time.monotonic()
-        self._former: int | None = None  # the form of a journal that still has to be rewritten in this form
         self._unapplied: dict[asyncio.Future[None], AnyEntry] = {}  # written entries that take effect once they are on the disk
         self.differences = Differences()
         self._screen: Screen | None = None
@@ -81,26 +78,24 @@ class Keeper:
 
     # Start
 
-    async def open(self, plan: Callable[[], Mapping[str, Json]], site: int | None) -> bool:
-        """Read the journal, or begin one with this plan, and start the program. Return whether the journal is new. Raise `CannotStart`
-        if the journal cannot be read. If the program refuses the plan, the folder is left as it was."""
+    async def open(self, plan: Callable[[], Mapping[str, Json]], site: str | None) -> bool:
+        """Read the journal, or begin one with this plan and a new site, which has the name `site` if that is given. Start the program.
+        Return whether the journal is new. Raise `CannotStart` if the journal cannot be read. If the program refuses the plan, the folder
+        is left as it was."""
         path = self.folder / "journal.jsonl"
         entries = Entries(path)
-        self.state, count, form = self._read(entries)
+        self.state, is_new = self._read(entries)
         self.confirmed = self.state.shared.size
-        is_new = count == 0
-        if not is_new and site not in (None, self.state.site):
+        if not is_new and site is not None and not is_called(self.state.site, site):
             raise CannotStart(f"{self.folder} belongs to site {self.state.site} for ever: start it without --site, or use a new folder")
         if is_new:
+            own = new_site(site)
             first: dict[str, Json] = {**plan(), "replicas": [self.state.replica(seat.index).at for seat in self.state.seats]}
             # A program must accept the plan before it is written to the journal.
             await (await start(command_of(self.path, first), to_json(first).encode())).close()
         self.journal = Journal(path, entries.size)
         if is_new:
-            await self.record(Folder(read_plan_line(first), site or 1, secrets.token_hex(8)))
-        elif form != JOURNAL_FORM:
-            self._former = form
-            await self._upgrade()
+            await self.record(Folder(JOURNAL_FORM, read_plan_line(first), own))
         self.clock_started = time.monotonic()
         self._forget()
         self._screen = await self._start()
@@ -109,25 +104,12 @@ class Keeper:
                       supervise("the task that shortens the journal", self.shorten_journal, self.report_end)]
         return is_new
 
-    async def _upgrade(self) -> None:
-        """Copy a journal of a former form to another file, and rewrite the journal in this form. Wait until the disk accepts writes."""
-        if self._former is None or self.journal.fault is not None:
-            return
-        kept = self.journal.path.with_name(f"journal.form{self._former}.jsonl")
-        if not kept.exists():
-            os.close(put_in_place(kept, [self.journal.path.read_bytes()]))
-            sync_folder(kept.parent)
-        form, self._former = self._former, None
-        await self.journal.write(Upgraded().written())
-        await self.compact()
-        logging.warning("the journal had form %d: it was rewritten in form %d, and the old one is kept as %s", form, JOURNAL_FORM, kept)
-
     async def compact(self) -> None:
         """Shorten the journal: write the present state, with each operation once."""
         for seat in self.state.seats[1:]:
             self.state.forget_keys(seat)
             await asyncio.sleep(0)
-        await self.journal.compact(lambda: (entry.written() for entry in (*self.state.entries(), *self._unapplied.values())))
+        await self.journal.compact(lambda: (self._written(entry) for entry in (*self.state.entries(), *self._unapplied.values())))
 
     async def shorten_journal(self) -> None:
         """Shorten the journal whenever it is too long; never return."""
@@ -138,10 +120,13 @@ class Keeper:
                 await self.compact()
                 size = max(self.settings.most_journal, 2 * self.journal.size)
 
-    def _read(self, entries: Iterable[JournalLine]) -> tuple[State, int, int]:
-        """Return the state that entries describe, their number, and the form of the journal."""
+    def _written(self, entry: AnyEntry) -> JournalLine:
+        return write_entry(entry, self.state.site)
+
+    def _read(self, entries: Iterable[JournalLine]) -> tuple[State, bool]:
+        """Replay journal entries. Return the resulting state, and whether the journal is empty."""
         number = 0
-        state = State(self.stamps, time.time_ns() // 1_000)
+        state = State(self.counter, time.time_ns() // 1_000)
         for number, entry in enumerate(entries, 1):
             try:
                 state.read(entry)
@@ -149,10 +134,8 @@ class Keeper:
                 raise CorruptJournal(f"{self.folder / 'journal.jsonl'}, line {number}: {fault}") from None
         if number and state.plan is NO_PLAN:
             raise CorruptJournal(f"{self.folder / 'journal.jsonl'} does not begin with a plan")
-        form = state.form
-        state.end_reading()
         state.shared.prepare()
-        return state, number, form
+        return state, number == 0
 
     def report_end(self, sentence: str) -> None:
         """Tell people that a task of the server has ended and is started again."""
@@ -174,12 +157,12 @@ class Keeper:
         entry.apply(self.state)
         if isinstance(entry, Made):
             one = entry.operation
-            self.undo_count += one.undoes is not None or None in one.sets.values()
+            self.undo_count += one.undoes is not None or one.withdraws
         upto = self.state.shared.size
 
         def confirm() -> None:
             self.confirmed = max(self.confirmed, upto)
-        done = self.journal.write(entry.written(), confirm)
+        done = self.journal.write(self._written(entry), confirm)
         done.add_done_callback(self._is_written)
         return done
 
@@ -190,7 +173,7 @@ class Keeper:
             entry.apply(self.state)
             then()
         self._check_disk()
-        done = self.journal.write(entry.written(), apply)
+        done = self.journal.write(self._written(entry), apply)
         self._unapplied[done] = entry
         done.add_done_callback(self._is_written)
         return done
@@ -248,7 +231,6 @@ class Keeper:
             await self.journal.probe_disk(self.clock().written())
         except OSError as fault:
             return explain_fault(fault)
-        await self._upgrade()
         self._trouble = None
         self.listeners.trouble.notify()
         return None
@@ -275,7 +257,7 @@ class Keeper:
         self._trouble = self.journal.fault
         self.listeners.trouble.notify()
         try:
-            state, _, _ = await asyncio.to_thread(lambda: self._read(self.journal.read_confirmed()))
+            state, _ = await asyncio.to_thread(lambda: self._read(self.journal.read_confirmed()))
         except (OSError, CannotStart) as fault:
             raise NotKept(f"the journal cannot be read ({fault})") from None
         clock, self.state, self.confirmed = self.clock(), state, state.shared.size

@@ -6,28 +6,25 @@ the program accepts its edits. This module has no sockets.
 from __future__ import annotations
 
 import asyncio
-import contextlib
 import time
 from dataclasses import replace
-from typing import Awaitable, Callable, Mapping, Sequence, TypedDict, TypeVar, Union
+from typing import Awaitable, Callable, Mapping, TypedDict, TypeVar, Union
 
 from ..background.supervised import supervise
-from ..model.changes import lines_of
+from ..model.changes import line_of
 from ..model.choices import find_overruling, sendable, find_undoable, would_change
 from ..model.demands import kept_demand, written_demand
-from ..model.operations import (About, Json, Operation, RawName, Shape, Stamp, edit, exclude, sort_by_stamp, lift, put, restamp,
-                               undo)
+from ..model.operations import About, Json, Operation, Shape, Stamp, exclude, lift, put, undo
 from ..model.reading import Malformed
-from ..model.road import Road, change, repeat, is_standing
+from ..model.road import Road, change, repeat
 from ..roads.program import Times
 from ..roads.screen import first_step
-from ..tabs.asked import RawEdit
 from ..tabs.lines import Act, Lister
 from ..tabs.refusals import Refused, not_a_command
 from ..tabs.seating import Seating
 from .checks import Checks
 from .keeper import SHARED, Keeper
-from .records import Bound, Came, CameBack, Made, Share, StampedAnew, Take, Works
+from .records import Came, CameBack, Made, Share, Take, Works
 from .state import Replica, SeatReplica, State
 from .timing import Timing
 from .writing import Write, wait_until_written
@@ -41,16 +38,8 @@ ReplyFields = Mapping[str, object]
 """The fields of a reply to a tab."""
 NewsReply = TypedDict("NewsReply", {"size": int, "from": "list[str]", "shares": "list[dict[str, Json]]", "changes": "list[Act]"})
 Called = Union[Stamp, str]  # a stamp, or the key of an operation of the seat
-MakeOperation = Callable[[SeatReplica, Stamp, About], Operation]  # makes an operation of this stamp
+MakeOperation = Callable[[SeatReplica, int, About], Operation]  # makes an operation of this count
 T = TypeVar("T")
-
-
-class FutureStamp(Refused):
-    """The refusal of another site's operation that takes effect later."""
-
-    def __init__(self, one: Operation) -> None:
-        super().__init__("Count", f"the stamp {list(one.stamp)} of {one.about.who} is more than a day ahead of the clock: the "
-                         f"operation takes effect when that day comes")
 
 
 def add_fields(about: About, more: Mapping[str, Json]) -> About:
@@ -66,7 +55,7 @@ class Lab:
         self.seating, self.timing = Seating(keeper), Timing(keeper)
         self._pending: dict[tuple[int, str], list[asyncio.Future[None]]] = {}  # by seat and key: entries that are being written
 
-    async def open(self, plan: Callable[[], Mapping[str, Json]], site: int | None) -> bool:
+    async def open(self, plan: Callable[[], Mapping[str, Json]], site: str | None) -> bool:
         """Open the keeper's folder. Return whether it is new."""
         is_new = await self.keeper.open(plan, site)
         self._checks = Checks(self.state.plan)
@@ -99,7 +88,7 @@ class Lab:
         of the road's file."""
         self._checks.check_shape(shape)
         more = written_demand(demand, is_planned)
-        return await self._make(index, key, note, times, lambda seat, stamp, about: put(stamp, shape, add_fields(about, more)))
+        return await self._make(index, key, note, times, lambda seat, count, about: put(count, shape, add_fields(about, more)))
 
     async def change_line(self, index: int, times: Times, *, key: str, note: str, line: Called, shape: Shape | None,
                           top: bool, demand: float | None = None) -> ReplyFields:
@@ -107,29 +96,20 @@ class Lab:
         if shape is not None:
             self._checks.check_shape(shape)
 
-        def make_operation(seat: SeatReplica, stamp: Stamp, about: About) -> Operation:
+        def make_operation(seat: SeatReplica, count: int, about: About) -> Operation:
             changed = self._find_line(seat, line)
             said = demand if demand is not None or shape is None else kept_demand(seat.road, changed, shape)
-            return change(seat.road, stamp, changed, shape, top, add_fields(about, written_demand(said)))
+            return change(seat.road, count, changed, shape, top, add_fields(about, written_demand(said)))
         return await self._make(index, key, note, times, make_operation)
 
     async def lift_line(self, index: int, times: Times, *, key: str, note: str, line: Called) -> ReplyFields:
         """Put a line on top, with its present shape."""
-        return await self._make(index, key, note, times, lambda seat, stamp, about: lift(
-            stamp, self._find_line(seat, line), about))
-
-    async def put_edits(self, index: int, times: Times, *, key: str, note: str, edits: Sequence[RawEdit],
-                        shape: Shape | None = None) -> ReplyFields:
-        """Put raw edits. `shape` is only shown, and has no effect."""
-        values: dict[RawName, int | None] = {(kind, thing, step): value for kind, thing, step, value in edits}
-        for name, value in values.items():
-            self._checks.check_edit(name, value)
-        return await self._make(index, key, note, times, lambda seat, stamp, about: edit(
-            stamp, values, About(about.who, about.note, about.when, shape)))
+        return await self._make(index, key, note, times, lambda seat, count, about: lift(
+            count, self._find_line(seat, line), about))
 
     async def undo(self, index: int, times: Times, *, key: str, note: str, stamp: Called) -> ReplyFields:
         """Undo an operation."""
-        def make_operation(seat: SeatReplica, new: Stamp, about: About) -> Operation:
+        def make_operation(seat: SeatReplica, count: int, about: About) -> Operation:
             undone = self._find_operation(seat, stamp)
             root = seat.road.record.root_of(undone)
             if root.excludes is not None and root.site != self.state.site:
@@ -137,49 +117,43 @@ class Lab:
                               "that site again instead")
             if not would_change(seat.road, undone):
                 raise Refused("NothingToUndo", self._why_nothing(seat, undone))
-            return undo(new, undone, about)
+            return undo(count, undone, about)
         return await self._make(index, key, note, times, make_operation)
 
     async def put_again(self, index: int, times: Times, *, key: str, stamp: Called) -> ReplyFields:
-        """Repeat what an operation did to its lines, on top of all."""
-        def make_operation(seat: SeatReplica, new: Stamp, about: About) -> Operation:
+        """Repeat what an operation did to its line, on top of all."""
+        def make_operation(seat: SeatReplica, count: int, about: About) -> Operation:
             old = self._find_operation(seat, stamp)
-            if not old.names:
+            one = repeat(seat.road, count, old, replace(about, note=old.about.note, more=old.about.more))
+            if one is None:
                 raise Refused("NothingToPut", "an undo cannot be repeated: change the line itself")
-            return repeat(seat.road, new, old, About(about.who, old.about.note, about.when, old.about.shape, old.about.more))
+            return one
         return await self._make(index, key, "", times, make_operation)
 
-    async def exclude_site(self, index: int, times: Times, *, key: str, note: str, site: int, out: bool) -> ReplyFields:
+    async def exclude_site(self, index: int, times: Times, *, key: str, note: str, site: str, out: bool) -> ReplyFields:
         """Ignore all past and future operations of a site if `out` is true; otherwise include them again."""
         if site == self.state.site:
             raise Refused("OwnSite", f"site {site} cannot exclude itself: another site must do it")
-        return await self._make(index, key, note, times, lambda seat, stamp, about: exclude(stamp, site, out, about))
+        return await self._make(index, key, note, times, lambda seat, count, about: exclude(count, site, out, about))
 
-    def _find_stamp(self, seat: SeatReplica, called: Called) -> Stamp:
-        stamp = seat.done.get(called) if isinstance(called, str) else seat.renamed.get(called, called)
+    def _find_operation(self, seat: SeatReplica, called: Called) -> Operation:
+        """Return an operation that the seat holds, given its stamp or its key."""
+        stamp = seat.done.get(called) if isinstance(called, str) else called
         if stamp is None:
             raise Refused("NoSuchChange", f"this seat has made no change with the key {called}")
-        return stamp
+        held = self.state.held_by(seat, stamp)
+        if held is None:
+            raise Refused("NoSuchChange", f"this seat holds no change with the stamp {list(stamp)}: if it is somebody else's, `take` first")
+        return held
 
     def _find_line(self, seat: SeatReplica, called: Called) -> Stamp:
         """Return the name of a line of the seat's list. `called` is that name, or an operation that changed the line."""
-        line = self._find_stamp(seat, called)
-        if not is_standing(seat.road, line) and not seat.road.setters_of(line):
-            held = self.state.held_by(seat, line)
-            if not held:
-                raise Refused("NoSuchChange", f"this seat holds no change with the name {list(line)}: if it is somebody else's, `take` first")
-            lines = lines_of(seat.road, held[0])
-            line = line if line in lines else min(lines)
-            if any(one.excludes for one in self.state.of_stamp(line)):
-                raise Refused("NoSuchChange", "this line excludes a site and has no shape: include the site again, or undo the exclusion")
+        if isinstance(called, tuple) and seat.road.setters_of(called):
+            return called
+        line = line_of(seat.road, self._find_operation(seat, called))
+        if not seat.road.changes_of(line):
+            raise Refused("NoSuchChange", "this change has no shape: undo it, or include the site again that it excludes")
         return line
-
-    def _find_operation(self, seat: SeatReplica, called: Called) -> Operation:
-        stamp = self._find_stamp(seat, called)
-        held = self.state.held_by(seat, stamp)
-        if not held:
-            raise Refused("NoSuchChange", f"this seat holds no change with the stamp {list(stamp)}: if it is somebody else's, `take` first")
-        return held[0]
 
     def _why_nothing(self, seat: SeatReplica, one: Operation) -> str:
         """Return why the undo of an operation would change nothing."""
@@ -190,7 +164,7 @@ class Lab:
         if not record.counts(one):
             by = [other for other in record.undos_of(one) if record.counts(other)]
             return f"{' and '.join(sorted({other.about.who for other in by}))} undid this change already"
-        later = sorted({other.about.who for other in by if other.names or other.excludes})
+        later = sorted({other.about.who for other in by if other.undoes is None})
         return f"{' and '.join(later)} changed its line since" if later else "nothing of this change is in force any more"
 
     async def _make(self, index: int, key: str, note: str, times: Times, make_operation: MakeOperation) -> ReplyFields:
@@ -201,7 +175,6 @@ class Lab:
                 write.dones.extend(self._pending.get((index, key), ()))
                 return {"stamp": seat.done[key], "touched": None, "again": True, **self.list_of(seat, seat.version)}
             await write.require_writable()
-            self._restamp_early(seat, write)
             before, version = seat.road, self._list_version(seat)
             one = self._new_operation(seat, note, make_operation)
             write.record(Made(index, one, key))
@@ -210,35 +183,14 @@ class Lab:
             return {"stamp": one.stamp, "touched": await self._first_difference(before, seat.road), **self.list_of(seat, version)}
         return await self._write(index, make, times, takes_long=False)
 
-    def _find_early(self, seat: SeatReplica) -> list[Operation]:
-        """Return the private operations that are stamped more than a day ahead of the clock."""
-        latest = self.keeper.stamps.latest_count()
-        return [one for one in self.state.private(seat) if one.stamp[0] > latest]
-
-    def _restamp_early(self, seat: SeatReplica, write: Write) -> None:
-        """Give new stamps to private operations that a wrong clock has stamped more than a day ahead. Other sites would not take them."""
-        early = sort_by_stamp(self._find_early(seat))
-        if not early:
-            return
-        count, number = self.state.stamp(seat)
-        stamps = {one.stamp: (count + place, number) for place, one in enumerate(early)}
-        with contextlib.suppress(ValueError):  # one refers to a shared operation with a later stamp: they wait for their day
-            restamp(early, stamps)
-            write.record(StampedAnew(seat.index, stamps))
-
     def _new_operation(self, seat: SeatReplica, note: str, make_operation: MakeOperation) -> Operation:
         """Return a new operation. Raise `Refused` if not every site would take it, or if it would change nothing."""
-        stamp = self.state.stamp(seat)
-        try:
-            one = make_operation(seat, stamp, About(seat.name, note, int(time.time())))
-        except ValueError:
-            raise Refused("Count", "the change that you want to change is stamped more than a day ahead of the clock: wait until that "
-                          "day") from None
+        one = make_operation(seat, self.keeper.counter.next(), About(seat.name, note, int(time.time()), self.state.site))
         try:
             one = self.read(one.written())
         except Malformed as fault:
             raise not_a_command(f"no site would take this change: {fault}") from None
-        if one.site in seat.road.record.excluded:
+        if one.site in seat.road.record.excluded and one.excludes is None:
             raise Refused("SiteExcluded", "this site is excluded: changes made here have no effect until another site includes it again")
         after = seat.road.adding([one])
         if after.layers == seat.road.layers and after.record.excluded == seat.road.record.excluded:
@@ -248,10 +200,10 @@ class Lab:
     def _why_no_effect(self, one: Operation) -> str:
         if one.excludes is not None:
             return f"site {one.excludes[0]} is {'excluded' if one.excludes[1] else 'included'} already"
+        if one.withdraws:
+            return "nothing of this change is in force any more, so there is nothing to withdraw"
         if not one.sets:
             return "this change is on top already, or nothing of it is in force any more"
-        if not any(one.sets.values()):
-            return "nothing of this change is in force any more, so there is nothing to withdraw"
         return "the road already has these values"
 
     async def _first_difference(self, before: Road, after: Road) -> int | None:
@@ -293,11 +245,7 @@ class Lab:
         """Share the operations of a seat with these stamps; without stamps all that have an effect."""
         async def make(write: Write) -> tuple[list[Stamp], int | None]:
             seat, shared = self.seating.require_owned(index), self.state.shared
-            if self._find_early(seat):
-                await write.require_writable()
-                self._restamp_early(seat, write)
-            chosen = None if stamps is None else {seat.renamed.get(stamp, stamp) for stamp in stamps}
-            given = seat.shareable() if chosen is None else sendable(seat.road, shared.road, seat.own, chosen)
+            given = seat.shareable() if stamps is None else sendable(seat.road, shared.road, seat.own, stamps)
             before = shared.road
             if given:
                 await write.require_writable()
@@ -322,7 +270,7 @@ class Lab:
             edits = await self.keeper.differences.between(before, seat.road, (shared.upto(upto), shared.upto(seat.upto)))
             lister = Lister(self.state, seat)
             return {"touched": first_step(edits), "size": len(came),
-                    "changes": [lister.operation(one, None) for one in came[-MOST_IN_TAKE:]], **self.list_of(seat, version)}
+                    "changes": [lister.operation(one) for one in came[-MOST_IN_TAKE:]], **self.list_of(seat, version)}
         return await self._write(index, make, times, takes_long=True)
 
     def unseen_shares(self, index: int, most: int) -> NewsReply:
@@ -334,7 +282,7 @@ class Lab:
         lister = Lister(self.state, shared, self.keeper.road(SHARED))
         return {"size": len(fresh) + begin - seat.upto, "from": sorted({one.about.who for one in fresh})[:10],
                 "shares": [one.reply_fields() for one in shares[-20:]],
-                "changes": [lister.operation(one, None) for one in fresh[-most:]]}
+                "changes": [lister.operation(one) for one in fresh[-most:]]}
 
     async def record_works(self) -> None:
         """Let every new seat from now on start with all that is shared so far."""
@@ -369,10 +317,6 @@ class Lab:
     def read(self, written: Json) -> Operation:
         """Return an operation of a seat or of another site. Raise `Malformed` or `Refused` if it is not one that every site takes."""
         return self._checks.read(written)
-
-    async def bind(self, number: int, folder: str) -> None:
-        """Bind a site's number to a folder, in the journal."""
-        await wait_until_written(self.keeper.record(Bound(number, folder)), {})
 
     async def acknowledge(self, stamps: list[Stamp]) -> None:
         """Note that these operations came back from the broker, so they need not be sent again."""

@@ -1,8 +1,8 @@
-"""Define the entries of the journal, form 3: their fields, how these are written, and how an entry changes a state.
+"""Define the entries of the journal, form 4: their fields, how these are written, and how an entry changes a state.
 
-    entry = read_entry("take", value)     raises `Malformed` if the value is not such an entry
+    entry = read_entry("take", value, site)     raises `Malformed` if the value is not such an entry
     entry.apply(state)
-    entry.written()                       {"take": {..}}
+    write_entry(entry, site)                    {"take": {..}}
 
 An entry is a dataclass. The metadata of a field says how it is read and written. A field that has its default value is not written.
 """
@@ -17,13 +17,13 @@ from zegdrut.program.grammar import PLAN, check_fields
 from zegdrut.program.wire import PlanLine
 
 from ..model.operations import Json, Operation, Stamp
-from ..model.reading import GREATEST_COUNT, Malformed, read_kept_operation, read_row, read_stamp, read_time, whole
+from ..model.reading import Malformed, read_kept_operation, read_row, read_site, read_stamp, read_time, whole
+from .entries import CannotStart
 
 if TYPE_CHECKING:
     from .state import State
 
-JOURNAL_FORM = 3
-FORMER_FORMS = (1, 2)
+JOURNAL_FORM = 4
 MOST_SEATS = 64
 Fields = Mapping[str, Json]
 Written = dict[str, "dict[str, Json]"]
@@ -140,13 +140,13 @@ def read_number(value: Json) -> float:
     return value
 
 
-def form(*forms: int) -> How:
-    """Return the metadata of a journal's form, which must be one of these."""
-    def read_form(value: Json) -> int:
-        if type(value) is not int or value not in forms:
-            raise Malformed(f"the journal has form {value}, and this server reads the forms 1 to {JOURNAL_FORM}")
-        return value
-    return unconverted(read_form)
+def read_form(value: Json) -> int:
+    """Return the form of a journal. Raise `CannotStart` if this server reads another one."""
+    if value != JOURNAL_FORM:
+        raise CannotStart(f"the journal has form {value}, and this server reads form {JOURNAL_FORM}. "
+                          + ("Make a new folder from this one: live/import_former FOLDER NEW_FOLDER" if value in (1, 2, 3) else
+                             "Use the newer server that wrote it"))
+    return JOURNAL_FORM
 
 
 def count_format(most: int, what: str) -> How:
@@ -162,17 +162,16 @@ def list_format(read: Callable[[Json], T], write: Callable[[T], Json]) -> How:
     return field_format(read_all, lambda some: [*map(write, some)])
 
 
-def pairs_format(read_key: Callable[[Json], T], write_key: Callable[[T], Json]) -> How:
-    """Return the metadata of a mapping to stamps, which is written as a list of pairs."""
-    def read_all(value: Json) -> Mapping[T, Stamp]:
-        if not isinstance(value, list):
-            raise Malformed(f"a list was expected, not {str(value)[:40]}")
-        rows = (read_row(pair, 2, "a pair has two parts") for pair in value)
-        return {read_key(key): read_stamp(stamp) for key, stamp in rows}
+def read_keys(value: Json) -> Mapping[str, Stamp]:
+    """Return stamps by key, which are written as a list of pairs."""
+    if not isinstance(value, list):
+        raise Malformed(f"a list was expected, not {str(value)[:40]}")
+    rows = (read_row(pair, 2, "a pair has two parts") for pair in value)
+    return {read_string(key): read_stamp(stamp) for key, stamp in rows}
 
-    def write_all(some: Mapping[T, Stamp]) -> Json:
-        return [[write_key(key), [*stamp]] for key, stamp in some.items()]
-    return field_format(read_all, write_all)
+
+def write_keys(keys: Mapping[str, Stamp]) -> Json:
+    return [[key, [*stamp]] for key, stamp in keys.items()]
 
 
 def write_operation(one: Operation) -> Json:
@@ -180,8 +179,7 @@ def write_operation(one: Operation) -> Json:
 
 
 TEXT_FORMAT, TIME_FORMAT, NUMBER_FORMAT = unconverted(read_string), unconverted(read_time), unconverted(read_number)
-SEAT_FORMAT, SITE_FORMAT, STEP_FORMAT = count_format(MOST_SEATS - 1, "seat"), count_format(1_023, "site"), count_format(1 << 30, "step")
-COUNT, PLACE = count_format(GREATEST_COUNT, "count"), count_format(1 << 40, "place")
+SEAT_FORMAT, STEP_FORMAT, PLACE = count_format(MOST_SEATS - 1, "seat"), count_format(1 << 30, "step"), count_format(1 << 40, "place")
 OPERATION_FORMAT = field_format(read_kept_operation, write_operation)
 STAMPS = list_format(read_stamp, lambda stamp: [*stamp])
 SHARED_FORMAT, UNSENT_FORMAT = (unconverted(lambda value: value is True, name) for name in ("shared", "unsent"))
@@ -191,27 +189,15 @@ SHARED_FORMAT, UNSENT_FORMAT = (unconverted(lambda value: value is True, name) f
 
 @dataclass(frozen=True)
 class Folder(Entry):
-    """The first entry: the plan, the site's number, the folder's identifier, and the form of the journal."""
+    """The first entry: the form of the journal, the plan, and the name of the site."""
 
     kind = "lab"
+    form: int = field(metadata=unconverted(read_form))
     plan: PlanLine = field(metadata=field_format(read_plan_line, write_plan))
-    site: int = field(metadata=SITE_FORMAT)
-    folder: str = field(metadata=TEXT_FORMAT)
-    form: int = field(default_factory=lambda: JOURNAL_FORM, metadata=form(*FORMER_FORMS, JOURNAL_FORM))
+    site: str = field(metadata=unconverted(read_site))
 
     def apply(self, state: State) -> None:
-        state.begin(self.plan, self.site, self.folder, self.form)
-
-
-@dataclass(frozen=True)
-class Upgraded(Entry):
-    """The journal had a former form up to here. The entries that follow have the present form."""
-
-    kind = "form"
-    form: int = field(default_factory=lambda: JOURNAL_FORM, metadata=form(JOURNAL_FORM))
-
-    def apply(self, state: State) -> None:
-        state.end_reading()
+        state.plan, state.site = self.plan, self.site
 
 
 @dataclass(frozen=True)
@@ -229,21 +215,18 @@ class Clock(Entry):
 
 @dataclass(frozen=True)
 class SeatGiven(Entry):
-    """A seat was given to somebody. `key` is the hash of the tab's key, `count` the greatest count in its stamps, `upto` how many shared
-    operations it has taken."""
+    """A seat was given to somebody. `key` is the hash of the tab's key, `upto` how many shared operations it has taken."""
 
     kind = "seat"
     seat: int = field(metadata=SEAT_FORMAT)
     name: str = field(metadata=TEXT_FORMAT)
     key: str = field(metadata=TEXT_FORMAT)
     when: float = field(metadata=TIME_FORMAT)
-    count: int = field(default=0, metadata=COUNT)
     upto: int = field(default=0, metadata=PLACE)
 
     def apply(self, state: State) -> None:
         seat = state.seats[self.seat]
         seat.name, seat.key, seat.used = self.name, self.key, self.when
-        seat.count = max(seat.count, self.count)
         state.take(seat, self.upto)
 
 
@@ -261,19 +244,19 @@ class SeatUsed(Entry):
 
 @dataclass(frozen=True)
 class SeatFreed(Entry):
-    """A seat was freed. `count` is the greatest count in its stamps."""
+    """A seat was freed."""
 
     kind = "free"
     seat: int = field(metadata=SEAT_FORMAT)
-    count: int = field(default=0, metadata=COUNT)
 
     def apply(self, state: State) -> None:
-        state.free(self.seat, self.count)
+        state.free(self.seat)
 
 
 @dataclass(frozen=True)
 class Made(Entry):
-    """A seat made an operation. If `is_shared`, it is on the shared road, too; if `is_unsent`, other sites may not have it."""
+    """A seat made an operation. If `is_shared`, it is on the shared road, too; if `is_unsent`, other sites may not have it. The journal
+    leaves out the site of the operation where it is the folder's own."""
 
     kind = "made"
     seat: int = field(metadata=SEAT_FORMAT)
@@ -290,18 +273,6 @@ class Made(Entry):
         state.hold_own(seat, one)
         if self.key is not None:
             seat.done[self.key] = one.stamp
-
-
-@dataclass(frozen=True)
-class StampedAnew(Entry):
-    """Private operations of a seat got new stamps, since the clock was wrong when they were made."""
-
-    kind = "restamp"
-    seat: int = field(metadata=SEAT_FORMAT)
-    stamps: Mapping[Stamp, Stamp] = field(metadata=pairs_format(read_stamp, lambda stamp: [*stamp]))
-
-    def apply(self, state: State) -> None:
-        state.stamp_anew(state.seats[self.seat], self.stamps)
 
 
 @dataclass(frozen=True)
@@ -363,24 +334,12 @@ class CameBack(Entry):
 
 
 @dataclass(frozen=True)
-class Bound(Entry):
-    """A site's number was bound to a folder; an empty folder revokes the binding."""
-
-    kind = "bound"
-    site: int = field(metadata=SITE_FORMAT)
-    folder: str = field(metadata=TEXT_FORMAT)
-
-    def apply(self, state: State) -> None:
-        state.bound[self.site] = self.folder
-
-
-@dataclass(frozen=True)
 class Keys(Entry):
     """The stamps of a seat's operations by their keys."""
 
     kind = "done"
     seat: int = field(metadata=SEAT_FORMAT)
-    keys: Mapping[str, Stamp] = field(metadata=pairs_format(str, str))
+    keys: Mapping[str, Stamp] = field(metadata=field_format(read_keys, write_keys))
 
     def apply(self, state: State) -> None:
         state.seats[self.seat].done.update(self.keys)
@@ -431,8 +390,20 @@ AnyEntry = Entry
 ENTRY_KINDS: dict[str, type[Entry]] = {one.kind: one for one in Entry.__subclasses__()}
 
 
-def read_entry(kind: str, value: Fields) -> Entry:
-    """Return an entry of form 3. Raise `Malformed` if the fields are not those of such an entry."""
+def read_entry(kind: str, value: Fields, site: str) -> Entry:
+    """Return an entry of the journal of a site. Raise `Malformed` if the fields are not those of such an entry."""
     if kind not in ENTRY_KINDS:
         raise Malformed(f"the journal's form {JOURNAL_FORM} has no entry `{kind}`")
+    operation = value.get("operation")
+    if isinstance(operation, dict) and "site" not in operation:
+        value = {**value, "operation": {**operation, "site": site}}
     return ENTRY_KINDS[kind].read(value)
+
+
+def write_entry(entry: Entry, site: str) -> Written:
+    """Return an entry in the form of the journal of a site."""
+    written = entry.written()
+    operation = written[entry.kind].get("operation")
+    if isinstance(operation, dict) and operation.get("site") == site:
+        del operation["site"]
+    return written

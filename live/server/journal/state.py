@@ -11,28 +11,25 @@ first ones of the shared road.
 from __future__ import annotations
 
 import asyncio
-import itertools
 from typing import Iterable, Iterator, Mapping
 
 from zegdrut.program.wire import PlanLine
 
-from ..model.changes import all_lines, find_altered_lines, lines_of, operations_on
+from ..model.changes import all_lines, find_altered_lines, line_of, operations_on
 from ..model.choices import find_forgettable, shareable
-from ..model.operations import SEATS, Operation, Stamp, Unreadable, is_raw, intern_int, restamp
+from ..model.operations import SEATS, Operation, Stamp, Unreadable, intern_int
 from ..model.reading import Malformed
 from ..model.road import Road
-from .former_journal import Former
 from .journal import CorruptJournal
-from .records import (JOURNAL_FORM, AllNews, AnyEntry, Bound, Came, Clock, Fields, Folder, Keys, Made, News, SeatFreed,
-                      SeatGiven, Take, Works, read_entry)
-from .stamps import StampClock
+from .naming import Counter
+from .records import (JOURNAL_FORM, AllNews, AnyEntry, Came, Clock, Fields, Folder, Keys, Made, News, SeatGiven, Take, Works,
+                      read_entry)
 
-TAB_FORM = 4  # the protocol of tabs
-SITE_FORM = 3  # the protocol of sites
+TAB_FORM = 6  # the protocol of tabs
+SITE_FORM = 4  # the protocol of sites
 MOST_NEWS = 100
 MOST_FORGOTTEN_KEYS = 1_000  # keys of a seat whose operations were forgotten
 APPLIED_AT_ONCE = 100  # operations that are applied before others get a turn
-LAYERS_PER_UNIT = 12  # layers of an operation that count as one more operation
 MOST_UNREADABLE = 10  # operations of a journal that cannot be read; with more, the server does not start
 MOST_SHARED_ROADS = 8  # values of the shared road that are kept for seats that take
 
@@ -55,12 +52,6 @@ def plan_value(plan: PlanLine, kind: str, index: int) -> int | None:
     raise ValueError(f"no kind of object: {kind}")
 
 
-def size_of_part(some: list[Operation]) -> int:
-    """Return how many of these operations, from the first on, are applied at once: fewer if they are large."""
-    work = itertools.accumulate(1 + len(one.sets) // LAYERS_PER_UNIT for one in some)
-    return max(1, sum(1 for _ in itertools.takewhile(lambda done: done <= APPLIED_AT_ONCE, work)))
-
-
 class Replica:
     """A road with the list of its changes. New operations wait until somebody asks for the road."""
 
@@ -80,11 +71,6 @@ class Replica:
         return f"seat{self.index}" if self.index else "shared"
 
     @property
-    def number(self) -> int:
-        """Return the number in its stamps."""
-        return SEATS * self._state.site + self.index
-
-    @property
     def road(self) -> Road:
         if self._road is None:
             self._road, self._waiting = self.build(), []
@@ -95,8 +81,8 @@ class Replica:
 
     async def catch_up(self) -> None:
         """Apply waiting operations in pieces, so that other seats get their turn in between. The property `road` still applies all."""
-        while self._road is not None and (size := size_of_part(self._waiting)) < len(self._waiting):
-            part, self._waiting = self._waiting[:size], self._waiting[size:]
+        while self._road is not None and len(self._waiting) > APPLIED_AT_ONCE:
+            part, self._waiting = self._waiting[:APPLIED_AT_ONCE], self._waiting[APPLIED_AT_ONCE:]
             self.become(self._road.adding(part))
             await asyncio.sleep(0)
 
@@ -145,6 +131,7 @@ class SharedReplica(Replica):
         super().__init__(0, state)
         self._order: list[Operation] = []
         self._roads: dict[int, Road] = {}  # by the number of operations: values of the road
+        self.greatest = 0  # the greatest count of its operations
 
     def build(self) -> Road:
         return self.upto(self.size)
@@ -152,6 +139,7 @@ class SharedReplica(Replica):
     def hold(self, operations: Iterable[Operation]) -> list[Operation]:
         fresh = super().hold(operations)
         self._order += fresh
+        self.greatest = max([self.greatest, *(one.stamp[0] for one in fresh)])
         return fresh
 
     def operations(self, first: int = 0, end: int | None = None) -> list[Operation]:
@@ -186,33 +174,22 @@ class SharedReplica(Replica):
 class SeatReplica(Replica):
     """A seat: who has it, and what it holds."""
 
-    def __init__(self, index: int, state: State, count: int = 0) -> None:
+    def __init__(self, index: int, state: State) -> None:
         super().__init__(index, state)
         self.name, self.key = "", ""  # `key` is the hash of its tab's key; empty if nobody has the seat
-        self.count = count  # the greatest count in its stamps
         self.upto = 0  # how many operations of the shared road it has taken
-        self.used: float = 0  # when it last had a tab, in seconds since 1970, in seconds since 1970
+        self.used: float = 0  # when it last had a tab, in seconds since 1970
         self.done: dict[str, Stamp] = {}  # its operations by their keys
-        self.renamed: dict[Stamp, Stamp] = {}  # the stamps of operations that were stamped again
         self.idle: frozenset[Operation] = frozenset()  # private ones that need not be shared, as the list shows
         self._shareable: tuple[Road, Road, list[Operation]] | None = None
 
     def build(self) -> Road:
         return self._state.shared.upto(self.upto).adding(self.own)
 
-    def rebuild(self) -> None:
-        """Build its road again from all the operations that it holds."""
-        if self._road is not None:
-            self._waiting = []
-            self.become(self.build())
-
-    def rebuild_without(self, lines: set[Stamp], others: set[Operation]) -> None:
-        """Build its road again after operations on these lines were forgotten. Lines without operations leave the list. Raw edits of
-        `others` that replaced forgotten ones may now belong to different lines, so mark the lines of these operations, too."""
-        before, after = self.road, self.build()
-        self._road = after
-        left = {line for line in lines if operations_on(after, line)}
-        left |= {line for one in others for road in (before, after) for line in lines_of(road, one)}
+    def rebuild_without(self, lines: set[Stamp]) -> None:
+        """Build its road again after operations on these lines were forgotten. Lines without operations leave the list."""
+        self._road = self.build()
+        left = {line for line in lines if operations_on(self._road, line)}
         self.mark(sorted(left))
         if self.marks is not None:
             self.marks = {line: version for line, version in self.marks.items() if line in left or line not in lines}
@@ -240,7 +217,7 @@ class SeatReplica(Replica):
         given = set(self.shareable())
         idle = frozenset(one for one in self._state.private(self) if one not in given and one in self.road)
         changed, self.idle = idle ^ self.idle, idle
-        self.mark(sorted({line for one in changed if one in self.places for line in lines_of(self.road, one)}))
+        self.mark(sorted({line_of(self.road, one) for one in changed if one in self.places}))
 
     def begin_list(self) -> dict[Stamp, int]:
         marks = super().begin_list()
@@ -251,12 +228,11 @@ class SeatReplica(Replica):
 class State:
     """All that a journal determines."""
 
-    def __init__(self, clock: StampClock | None = None, begun: int = 0) -> None:
-        """`clock` makes stamps. Versions of lists begin above `begun`."""
+    def __init__(self, counter: Counter | None = None, begun: int = 0) -> None:
+        """`counter` counts operations. Versions of lists begin above `begun`."""
         self.begun = begun
         self.plan: PlanLine = NO_PLAN
-        self.site, self.folder, self.form = 0, "", JOURNAL_FORM
-        self.bound: dict[int, str] = {}  # site's number -> the folder that had it first
+        self.site = ""
         self.makers: dict[Operation, int] = {}  # the seats that made operations
         self.unsent: dict[Operation, None] = {}  # shared at this site, but not yet returned by the broker
         self.titles: dict[Operation, str] = {}  # the title under which an operation was shared
@@ -267,11 +243,8 @@ class State:
         self.stop: int | None = None
         self.unreadable: list[Unreadable] = []  # operations of the journal that are kept aside
         self.by_stamp: dict[Stamp, Operation] = {}
-        self._twins: dict[Stamp, tuple[Operation, ...]] = {}  # other operations with the same stamp
-        self._greatest, self._later = 0, list[int]()  # the greatest count not too far ahead of the clock, and those beyond
         self.lately: dict[int, tuple[Road, Road]] = {}  # by seat: the shared road, and the same road with all private operations
-        self._clock = clock or StampClock()
-        self._former: Former | None = None
+        self._counter = counter or Counter()
         self.empty = Road(lambda kind, index: plan_value(self.plan, kind, index))
         self.shared = SharedReplica(self)
         self.seats: list[SeatReplica] = []
@@ -284,22 +257,13 @@ class State:
     # Entries
 
     def read(self, entry: Mapping[str, Fields]) -> None:
-        """Apply an entry of a journal, of any form; raise `CorruptJournal` if it is malformed."""
+        """Apply an entry of a journal; raise `CorruptJournal` if it is malformed."""
         (kind, value), = entry.items()
         try:
-            if self._former is None or not self._former.apply(kind, value):
-                read_entry(kind, value).apply(self)
+            read_entry(kind, value, self.site).apply(self)
         except (KeyError, IndexError, TypeError, ValueError, OverflowError) as fault:
             why = str(fault) if isinstance(fault, ValueError) else repr(fault)
             raise CorruptJournal(f"malformed entry `{kind}`: {why}") from None
-
-    def begin(self, plan: PlanLine, site: int, folder: str, form: int) -> None:
-        self.plan, self.site, self.folder, self.form = plan, site, folder, form
-        self._former = Former(self) if form < JOURNAL_FORM else None
-
-    def end_reading(self) -> None:
-        """Note that the whole journal, or its part in a former form, has been read: new entries have the present form."""
-        self.form, self._former = JOURNAL_FORM, None
 
     def intern(self, one: Operation) -> Operation:
         """Return the equal operation that is already held, or this one. Note an unreadable one; raise `Malformed` if there are too many."""
@@ -308,80 +272,41 @@ class State:
             if len(self.unreadable) > MOST_UNREADABLE:
                 raise Malformed(f"more than {MOST_UNREADABLE} operations cannot be read, of this one {one.why}")
             return one
-        known = self.of_stamp(one.stamp)
-        found = next((other for other in known if other.is_same(one)), None)
-        if found is None:
-            self._set_stamp(one.stamp, (*known, one))
-            if one.stamp[0] > self._greatest:
-                self._later.append(one.stamp[0])
-        return found or one
-
-    def of_stamp(self, stamp: Stamp) -> tuple[Operation, ...]:
-        """Return the operations with a stamp: none, one, or twins."""
-        first = self.by_stamp.get(stamp)
-        return () if first is None else (first, *self._twins.get(stamp, ()))
-
-    def _set_stamp(self, stamp: Stamp, some: tuple[Operation, ...]) -> None:
-        self.by_stamp.pop(stamp, None)
-        self._twins.pop(stamp, None)
-        if some:
-            self.by_stamp[stamp] = some[0]
-        if len(some) > 1:
-            self._twins[stamp] = some[1:]
+        self._counter.hold(one.stamp[0])
+        return self.by_stamp.setdefault(one.stamp, one)
 
     def hold_own(self, seat: SeatReplica, one: Operation) -> None:
         """Let a seat hold an operation of its own."""
         seat.own[one], self.makers[one] = None, seat.index
         seat.hold([one])
-        self._raise_count(one)
 
     def hold_shared(self, operations: Iterable[Operation], is_unsent: bool, title: str = "") -> list[Operation]:
         """Let the shared road hold operations. Return those that are new there."""
         fresh = self.shared.hold(operations)
         for one in fresh:
-            self._raise_count(one)
             if is_unsent:
                 self.unsent[one] = None
             if title:
                 self.titles[one] = title
             seat = self.seats[self.makers.get(one, 0)]
             if one in seat.own and seat.marks is not None:
-                seat.mark(sorted(lines_of(seat.road, one)))  # it is not private any more
+                seat.mark([line_of(seat.road, one)])  # it is not private any more
         return fresh
-
-    def _raise_count(self, one: Operation) -> None:
-        """Raise the count of an operation's seat if it is above, also if the operation came from another site."""
-        count, number = one.stamp
-        if number // SEATS == self.site:
-            own = self.seats[number % SEATS]
-            own.count = max(own.count, count)
 
     def take(self, seat: SeatReplica, upto: int) -> None:
         came, seat.upto = self.unseen(seat, upto), max(seat.upto, upto)
         seat.hold(came)
 
-    def free(self, index: int, count: int) -> None:
-        old = self.seats[index]
+    def free(self, index: int) -> None:
         self.lately.pop(index, None)
-        for one in old.own:
+        for one in self.seats[index].own:
             del self.makers[one]
-        self.seats[index] = SeatReplica(index, self, max(old.count, count))
+        self.seats[index] = SeatReplica(index, self)
 
     def add_news(self, news: News) -> None:
         self.shares = [*self.shares, news][-MOST_NEWS:]
 
     # Questions
-
-    def stamp(self, seat: SeatReplica) -> Stamp:
-        """Return a new stamp for a seat. It is above all stamps that are held here or that this site made, so a change wins over older
-        ones even if the clock was set back. Stamps that are too far ahead of the clock are ignored."""
-        latest = self._clock.latest_count()
-        if self._greatest > latest:  # the clock has gone back
-            self._greatest, self._later = 0, [count for count, _ in self.by_stamp]
-        self._greatest = max((count for count in self._later if count <= latest), default=self._greatest)
-        self._later = [count for count in self._later if count > latest]
-        made = max((other.count for other in self.seats if other.count <= latest), default=0)
-        return self._clock.count_after(max(self._greatest, made)), seat.number
 
     def private(self, seat: SeatReplica) -> list[Operation]:
         """Return the seat's own operations that have not been shared."""
@@ -395,28 +320,12 @@ class State:
         """Return the shared operations that the seat has not taken and does not hold already."""
         return [one for one in self.shared.operations(seat.upto, upto) if one not in seat.places]
 
-    def held_by(self, seat: SeatReplica, stamp: Stamp) -> list[Operation]:
-        return [one for one in self.of_stamp(stamp) if one in seat.places]
-
-    def stamp_anew(self, seat: SeatReplica, stamps: Mapping[Stamp, Stamp]) -> None:
-        """Give private operations of a seat new stamps. The old stamps still name them, too."""
-        old = [one for one in self.private(seat) if one.stamp in stamps]
-        new = restamp(old, stamps)
-        for one in old:
-            self._drop(seat, one)
-        for one in map(self.intern, new):
-            self.hold_own(seat, one)
-        seat.done = {key: stamps.get(stamp, stamp) for key, stamp in seat.done.items()}
-        seat.renamed.update(stamps)
-        self.lately.pop(seat.index, None)
-        seat.rebuild()
+    def held_by(self, seat: SeatReplica, stamp: Stamp) -> Operation | None:
+        """Return the operation with a stamp if the seat holds it."""
+        one = self.by_stamp.get(stamp)
+        return one if one in seat.places else None
 
     # Forgetting
-
-    def _drop(self, seat: SeatReplica, one: Operation) -> None:
-        """Drop a private operation."""
-        del seat.own[one], seat.places[one], self.makers[one]
-        self._set_stamp(one.stamp, tuple(other for other in self.of_stamp(one.stamp) if other is not one))
 
     def forget(self, seat: SeatReplica, kept: int) -> None:
         """Drop private operations that no longer have an effect, except the newest `kept`. No road differs without them."""
@@ -426,11 +335,10 @@ class State:
         gone = find_forgettable(seat.road, self.shared.road, seat.own, kept) & set(private)
         if not gone:
             return
-        lines = {line for one in gone for line in lines_of(seat.road, one)}
-        others = {other for one in gone for name in one.sets if is_raw(name) for other in seat.road.setters_of(name)}
+        lines = {line_of(seat.road, one) for one in gone}
         for one in gone:
-            self._drop(seat, one)
-        seat.rebuild_without(lines, others - gone)
+            del seat.own[one], seat.places[one], self.makers[one], self.by_stamp[one.stamp]
+        seat.rebuild_without(lines)
 
     def forget_keys(self, seat: SeatReplica) -> None:
         """Drop keys whose operations were forgotten, except the newest."""
@@ -443,15 +351,11 @@ class State:
 
     def entries(self) -> Iterator[AnyEntry]:
         """Yield entries that give the same state, each operation once."""
-        yield Folder(self.plan, self.site, self.folder)
+        yield Folder(JOURNAL_FORM, self.plan, self.site)
         yield Clock(self.rate, self.now, self.stop)
-        for number, folder in self.bound.items():
-            yield Bound(number, folder)
         for seat in self.seats[1:]:
             if seat.key:
-                yield SeatGiven(seat.index, seat.name, seat.key, seat.used, seat.count)
-            elif seat.count:
-                yield SeatFreed(seat.index, seat.count)
+                yield SeatGiven(seat.index, seat.name, seat.key, seat.used)
         for one in self.shared.places:
             yield self._shared_entry(one)
         yield AllNews(self.shares)

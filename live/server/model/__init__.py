@@ -13,7 +13,6 @@ set. Each module has a part of this function:
     changes      the list of changes: its lines, and which of them an operation may change
     choices      what a seat can undo, redo, share and forget
     demands      the demands, in cars per hour, that inflow chances stand for
-    former       operations of journals and messages of forms 1 and 2
 
 An operation that *counts* is an active one, in the words of live/PROTOCOL.md.
 """

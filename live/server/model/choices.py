@@ -31,12 +31,15 @@ def find_undoable(road: Road, own: Collection[Operation]) -> Undoable:
     """Return what undo and redo of a seat do next. Both skip operations whose undo would change nothing."""
     done: dict[Stamp, Operation] = {}
     undone: dict[Stamp, tuple[Operation, Operation]] = {}  # by the stamp of an undo: the undo, and what it undid
+    redone: dict[Stamp | None, Stamp] = {}  # by the stamp of a redo: the stamp of what it brought back
     for one in own_operations(road, own):
-        if one.undoes in done:
-            undone[one.stamp] = one, done.pop(one.undoes)
-        elif one.undoes in undone:
-            again = undone.pop(one.undoes)[1]
+        undoes = redone.get(one.undoes, one.undoes)
+        if undoes in done:
+            undone[one.stamp] = one, done.pop(undoes)
+        elif undoes in undone:
+            again = undone.pop(undoes)[1]
             done[again.stamp] = again
+            redone[one.stamp] = again.stamp
         else:
             done[one.stamp] = one
             undone.clear()
@@ -56,9 +59,10 @@ def find_overruling(road: Road, one: Operation) -> list[Operation]:
     """Return the operations that overrule this one, so that its undo would change nothing; the newest first."""
     record = road.record
     root = record.root_of(one)
-    found = {setter for name in root.sets for setter in [road.setter(name)] if setter is not None}
-    found |= {lifter for name in root.heights for lifter in [road.lifter(name)] if lifter is not None}
-    found |= {other for other in record.undos_of(one) if record.counts(other)}
+    found = {other for other in record.undos_of(one) if record.counts(other)}
+    if root.line is not None:
+        found |= {other for other in (road.setter(root.line) if root.sets else None, road.lifter(root.line) if root.top else None)
+                  if other is not None}
     if root.excludes is not None:
         found |= {other for other in record.exclusions if other.excludes is not None and record.counts(other)
                   and other.excludes[0] == root.excludes[0]}
@@ -76,24 +80,16 @@ def shareable(road: Road, shared: Road, own: Collection[Operation], then: Road |
     if that is known."""
     some, out = sendable(road, shared, own), shared.record.excluded
     then = then or shared.adding(some)
-    names, excluded = changed_layers(shared, then), then.record.excluded ^ shared.record.excluded
-    names.update(road.layers[name].line for name in list(names) for road in (shared, then) if name in road.layers)
-    return [one for one in some if one.site in out or any(
-        each.names & names or each.excludes is not None and each.excludes[0] in excluded for each in undo_chain(road, one))]
+    lines, excluded = changed_layers(shared, then), then.record.excluded ^ out
+    roots = [(one, road.record.root_of(one)) for one in some]
+    return [one for one, root in roots if one.site in out or root.line in lines
+            or root.excludes is not None and root.excludes[0] in excluded]
 
 
 def sendable(road: Road, shared: Road, own: Collection[Operation], stamps: AbstractSet[Stamp] | None = None) -> list[Operation]:
     """Return the private operations that count, all of them or those with these stamps. Leave out undos of private operations."""
     return [one for one in private(road, shared, own) if road.record.counts(one)
             and (one.undoes is None or one.undoes in shared.record.held) and (stamps is None or one.stamp in stamps)]
-
-
-def undo_chain(road: Road, one: Operation) -> list[Operation]:
-    """Return an operation, the operation that it undoes, the one that this undoes, and so on."""
-    found = [one]
-    for each in found:
-        found += road.record.undone_by(each)
-    return found
 
 
 def find_forgettable(road: Road, shared: Road, own: Collection[Operation], kept: int) -> set[Operation]:
@@ -114,6 +110,5 @@ def is_needed(road: Road, one: Operation, gone: set[Operation]) -> bool:
     if one in record.void:
         return not gone.issuperset(record.undos_of(one))
     if one.undoes is not None:
-        return one.undoes not in record.held or not gone.issuperset(record.held[one.undoes])
-    return any(name in road.layers or name in road.members or not gone.issuperset(road.setters_of(name) + road.lifters_of(name))
-               for name in one.names)
+        return record.undone_by(one) not in gone
+    return one.line in road.layers or one.line is not None and not gone.issuperset(road.changes_of(one.line))

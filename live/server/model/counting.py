@@ -21,9 +21,9 @@ class Record:
     """A set of operations, and which of them count."""
 
     def __init__(self) -> None:
-        self.held: dict[Stamp, tuple[Operation, ...]] = {}
+        self.held: dict[Stamp, Operation] = {}
         self.void: set[Operation] = set()  # operations that are held but do not count
-        self.excluded: frozenset[int] = frozenset()  # sites
+        self.excluded: frozenset[str] = frozenset()  # sites
         self.exclusions: tuple[Operation, ...] = ()  # operations that exclude sites or include them again, the oldest first
         self._undos: dict[Stamp, tuple[Operation, ...]] = {}  # undos by the stamp of the operation that they undo
         self._of_exclusions: frozenset[Stamp] = frozenset()  # exclusions, their undos, the undos of these undos, and so on
@@ -36,37 +36,30 @@ class Record:
         return other
 
     def __contains__(self, one: Operation) -> bool:
-        return any(held.is_same(one) for held in self.held.get(one.stamp, ()))
+        return one.stamp in self.held
 
     def operations(self) -> Iterator[Operation]:
-        return (one for some in self.held.values() for one in some)
+        return iter(self.held.values())
 
     def undos_of(self, one: Operation) -> tuple[Operation, ...]:
         """Return the operations that undo this one, whether they count or not."""
         return self._undos.get(one.stamp, ())
 
-    def undone_by(self, one: Operation) -> tuple[Operation, ...]:
-        """Return the operations that this one undoes: none, one, or twins."""
-        return () if one.undoes is None else self.held.get(one.undoes, ())
+    def undone_by(self, one: Operation) -> Operation | None:
+        """Return the operation that this one undoes; None if it undoes none that is held."""
+        return None if one.undoes is None else self.held.get(one.undoes)
+
+    def undo_chain(self, one: Operation) -> list[Operation]:
+        """Return an operation, the operation that it undoes, the one that this undoes, and so on. An undo whose target is missing is the
+        last one."""
+        found = [one]
+        while (undone := self.undone_by(found[-1])) is not None:
+            found.append(undone)
+        return found
 
     def root_of(self, one: Operation) -> Operation:
-        """Follow undos down to the operation that was undone first. An undo whose target is missing is its own root."""
-        while some := self.undone_by(one):
-            one = some[0]
-        return one
-
-    def roots_of(self, one: Operation) -> set[Operation]:
-        """Return all operations that `root_of` can lead to if operations on the way have twins."""
-        found, waiting = set[Operation](), [one]
-        passed = {one}
-        while waiting:
-            each = waiting.pop()
-            some = self.undone_by(each)
-            if not some:
-                found.add(each)
-            waiting += [other for other in some if other not in passed]
-            passed.update(some)
-        return found
+        """Follow undos down to the operation that was undone first."""
+        return self.undo_chain(one)[-1]
 
     def counts(self, one: Operation, flipped: AbstractSet[Operation] = NO_OPERATIONS) -> bool:
         """Return whether an operation counts."""
@@ -76,7 +69,7 @@ class Record:
         """Add operations. Return those that are new, and those that now count but did not before, or the reverse."""
         before = self._of_exclusions
         fresh = {one for one in operations if self._hold(one)}
-        waiting = fresh.union(one for stamp in self._of_exclusions - before for one in self.held.get(stamp, ()))
+        waiting = fresh.union(self.held[stamp] for stamp in self._of_exclusions - before)
         flipped = self._settle(sort_by_stamp(waiting))
         if len(fresh) > len(self.void):
             self.void = set(self.void)  # a smaller copy: the set had grown to hold all new operations
@@ -90,7 +83,7 @@ class Record:
         """Hold an operation, for now as one that does not count. Return whether it is new."""
         if one in self:
             return False
-        self.held[one.stamp] = *self.held.get(one.stamp, ()), one
+        self.held[one.stamp] = one
         self.void.add(one)
         if one.undoes is not None:
             self._undos[one.undoes] = *self._undos.get(one.undoes, ()), one
@@ -112,7 +105,8 @@ class Record:
             if self._is_void(one, NO_OPERATIONS) != (one in self.void):
                 self.void ^= {one}
                 flipped ^= {one}
-                waiting += self.undone_by(one)
+                undone = self.undone_by(one)
+                waiting += [] if undone is None else [undone]
         return flipped
 
     def _is_void(self, one: Operation, flipped: AbstractSet[Operation]) -> bool:
@@ -120,23 +114,23 @@ class Record:
             return any(other.site == one.site and self.counts(other, flipped) for other in self.undos_of(one))
         return one.site in self.excluded or any(self.counts(other, flipped) for other in self.undos_of(one))
 
-    def excluded_if(self, flipped: AbstractSet[Operation] = NO_OPERATIONS) -> frozenset[int]:
-        """Return the excluded sites. Exclusions are applied from the oldest on, and those of excluded sites are ignored."""
-        says: dict[int, bool] = {}
-        for one in self.exclusions:
+    def excluded_if(self, flipped: AbstractSet[Operation] = NO_OPERATIONS) -> frozenset[str]:
+        """Return the excluded sites. Of a site the newest exclusion holds; one is ignored if its own site is excluded by a newer one."""
+        says: dict[str, bool] = {}
+        for one in reversed(self.exclusions):
             if one.excludes is not None and self.counts(one, flipped) and not says.get(one.site):
-                says[one.excludes[0]] = one.excludes[1]
+                says.setdefault(*one.excludes)
         return frozenset(site for site, is_out in says.items() if is_out)
 
     def flipped_by_undo(self, one: Operation) -> set[Operation]:
         """Return the operations whose decision would change if an operation that counts were undone."""
-        flipped = {each for each in self.held[one.stamp] if each not in self.void}
-        waiting = [other for each in flipped for other in self.undone_by(each)]
-        while waiting:
-            other = waiting.pop()
-            if self._is_void(other, flipped) == self.counts(other, flipped):
-                flipped ^= {other}
-                waiting += self.undone_by(other)
+        if one in self.void:
+            return set()
+        flipped = {one}
+        for other in self.undo_chain(one)[1:]:
+            if self._is_void(other, flipped) != self.counts(other, flipped):
+                break
+            flipped.add(other)
         return flipped
 
 

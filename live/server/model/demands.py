@@ -9,7 +9,7 @@ import math
 from typing import Mapping, Sequence
 
 from .layers import split_by_topmost
-from .operations import END, Json, Operation, Shape, Stamp, is_line
+from .operations import END, Json, Operation, Shape, Stamp
 from .road import Road
 
 DEMAND, PLANNED = "demand", "planned"
@@ -21,16 +21,18 @@ Asked = Sequence[tuple[int, "float | None"]]
 
 
 def written_demand(demand: float | None, is_planned: bool = False) -> Mapping[str, Json]:
-    """Return the fields of an operation for the demand that its chance stands for; none if there is no demand."""
+    """Return the fields of an operation for the demand that its chance stands for, rounded to whole cars per hour as the page shows it;
+    none if there is no demand."""
     if demand is None:
         return {}
-    return {DEMAND: demand, PLANNED: True} if is_planned else {DEMAND: demand}
+    whole = math.floor(demand + 0.5)
+    return {DEMAND: whole, PLANNED: True} if is_planned else {DEMAND: whole}
 
 
-def stated_demand(one: Operation, line: Stamp) -> float | None:
-    """Return the demand that the chance of a line stands for, according to an operation on the line, in cars per hour; None if the
-    operation does not say."""
-    value, shape = one.about.more.get(DEMAND), one.sets.get(line)
+def stated_demand(one: Operation) -> float | None:
+    """Return the demand that an inflow chance stands for, according to the operation that set it, in cars per hour; None if the operation
+    does not say."""
+    value, shape = one.about.more.get(DEMAND), one.shape
     if shape is None or shape.kind != INFLOW or isinstance(value, bool) or not isinstance(value, (int, float)):
         return None
     return float(value) if math.isfinite(value) and 0 <= value <= MOST_DEMAND else None
@@ -39,7 +41,7 @@ def stated_demand(one: Operation, line: Stamp) -> float | None:
 def demand_of(road: Road, line: Stamp) -> float | None:
     """Return the present demand of a line, in cars per hour; None if nobody has asked for one."""
     setter = road.setter(line)
-    return None if setter is None else stated_demand(setter, line)
+    return None if setter is None else stated_demand(setter)
 
 
 def kept_demand(road: Road, line: Stamp, shape: Shape) -> float | None:
@@ -64,7 +66,7 @@ def asked_demand(road: Road, inlet: int) -> Asked:
     """Return the demand of an inlet over time, which is the demand of the topmost layer at each step."""
     found: list[tuple[int, float | None]] = []
     for begin, _, layer in split_by_topmost(road.on_object(INFLOW, inlet), 0, END):
-        demand = demand_of(road, layer.name) if layer is not None and is_line(layer.name) else None
+        demand = None if layer is None else demand_of(road, layer.name)
         if not found or found[-1][1] != demand:
             found.append((begin, demand))
     return found

@@ -4,34 +4,50 @@ from __future__ import annotations
 from bisect import bisect_left, insort
 from typing import Iterable, Iterator, NamedTuple, Sequence
 
-from .operations import Name, Stamp
+from .operations import CAPACITY, Capacity, Stamp
 
 Stretch = tuple[str, int, int, int, int]
 """A part of a road: kind, first and last object, first and last step."""
 
 
 class Layer(NamedTuple):
-    """A layer of a road. `line` is the line of the list that it belongs to; for a shape that is its own name."""
+    """A layer of a road, or a part of one. The layer with the greatest height lies on top; of equal heights, the one with the greatest
+    name. (Heights are equal if somebody changes a layer that is named by an operation that puts none.)"""
 
     height: Stamp
-    name: Name
-    line: Stamp
+    name: Stamp
     kind: str
     first: int
     last: int
     begin: int
     end: int
-    value: int
+    value: int | Capacity
 
 
 Piece = tuple[int, int, "Layer | None"]
 """A span of steps, from one to before another, and the topmost layer there; None if no layer is there."""
-Rank = tuple[Stamp, int, Name]
+OF_CAPACITY = "limit", "slow", "start"
+"""The kinds of the parts of a capacity, in the order of its value behind the cars per hour."""
 
 
-def rank(layer: Layer) -> Rank:
-    """Return the rank of a layer: the layer with the greatest rank lies on top. At equal heights a raw edit lies above a shape."""
-    return layer.height, len(layer.name), layer.name
+def values_of(kind: str, value: int | Capacity) -> list[tuple[str, int]]:
+    """Return the kinds and values that a program knows: of a capacity its limit, slowing chance and slow-to-start chance."""
+    return [*zip(OF_CAPACITY, value[1:])] if isinstance(value, tuple) else [(kind, value)]
+
+
+def parts_of(layer: Layer) -> list[Layer]:
+    """Return the parts of a layer, one for each kind."""
+    return [layer._replace(kind=kind, value=value) for kind, value in values_of(layer.kind, layer.value)]
+
+
+def kinds_of(kind: str) -> tuple[str, ...]:
+    """Return the kinds of the parts of a layer of a kind."""
+    return OF_CAPACITY if kind == CAPACITY else (kind,)
+
+
+def rank(layer: Layer) -> tuple[Stamp, Stamp]:
+    """Return the rank of a layer: the layer with the greatest rank lies on top."""
+    return layer.height, layer.name
 
 
 def sort_from_top(layers: Iterable[Layer]) -> list[Layer]:

@@ -1,36 +1,36 @@
 """Define operations, which are what people do to a road. An operation never changes.
 
-    put(stamp, shape)               puts a new layer on top
-    lift(stamp, line)               puts a line on top
-    edit(stamp, values)             makes raw edits
-    undo(stamp, operation)          undoes an operation, as if it had never been made; redo undoes an undo
-    exclude(stamp, site, is_out)    ignores everything a site made or makes, or includes it again
+    put(count, shape, about)               puts a new layer on top
+    lift(count, line, about)               puts a line on top
+    undo(count, operation, about)          undoes an operation, as if it had never been made; redo undoes an undo
+    exclude(count, site, is_out, about)    ignores everything a site made or makes, or includes it again
 
 `change` is in `road`, since it depends on the current layers.
 
-An operation has one stamp. A layer is named by the stamp of the operation that put it; the layer of a raw edit is named by kind, object
-and step.
+An operation is named by its stamp: a count, and the hash of the operation's text. So a stamp stands for one operation, whoever made it.
+A layer, which is a line of the list, is named by the stamp of the operation that put it.
 """
 from __future__ import annotations
 
+import base64
+import hashlib
 import json
-from dataclasses import dataclass, field
+from dataclasses import dataclass, field, replace
 from types import MappingProxyType
-from typing import Generic, Iterable, Iterator, Mapping, NamedTuple, TypeGuard, TypeVar, Union
+from typing import Iterable, Mapping, NamedTuple, Union
 
 Json = Union[None, bool, int, float, str, "list[Json]", "dict[str, Json]"]
-Stamp = tuple[int, int]
-"""A count, and 64 times the site's number plus the seat's."""
-RawName = tuple[str, int, int]
-"""Kind, object and step of a raw edit."""
-Name = Union[Stamp, RawName]
-"""The name of a layer."""
+Stamp = tuple[int, str]
+"""A count, and the hash of the operation's text."""
+Capacity = tuple[int, int, int, int]
+"""The value of a shape of kind `capacity`: cars per hour, and the limit, slowing chance and slow-to-start chance that admit them."""
 
-SEATS = 64  # numbers in the stamps of a site; number 0 belongs to no seat
+CAPACITY = "capacity"
+SEATS = 64  # replicas of a site; number 0 is the shared road
 END = 1 << 20  # a step after all steps of a road
+HASH = 16  # bytes of a hash
+EMPTY = (None, "", 0)  # values of known fields that are not written
 SMALL = tuple(range(1 << 14))
-K = TypeVar("K")
-V = TypeVar("V", covariant=True)
 
 
 def intern_int(value: int) -> int:
@@ -46,54 +46,21 @@ class Shape(NamedTuple):
     last: int
     begin: int
     end: int | None
-    value: int
+    value: int | Capacity
 
 
-class Single(Mapping[K, V], Generic[K, V]):
-    """A mapping with one key. It takes 48 bytes instead of the 250 of a dict. Most operations set one layer."""
-
-    __slots__ = "_key", "_value"
-
-    def __init__(self, key: K, value: V) -> None:
-        self._key, self._value = key, value
-
-    def __getitem__(self, key: K) -> V:
-        if key != self._key:
-            raise KeyError(key)
-        return self._value
-
-    def __contains__(self, key: object) -> bool:
-        return key == self._key
-
-    def __iter__(self) -> Iterator[K]:
-        return iter((self._key,))
-
-    def __len__(self) -> int:
-        return 1
-
-
-def pack_mapping(some: Mapping[K, V], empty: Mapping[K, V]) -> Mapping[K, V]:
-    """Return an equal mapping that takes as few bytes as possible. `empty` is the empty one."""
-    if len(some) > 1:
-        return some
-    return Single(*next(iter(some.items()))) if some else empty
-
-
-NO_LAYERS: Mapping[Name, Shape | None] = MappingProxyType({})
-NO_HEIGHTS: Mapping[Name, Stamp] = MappingProxyType({})
 NO_MORE: Mapping[str, Json] = MappingProxyType({})
-"""Empty values, which most operations share to save memory."""
 
 
 @dataclass(frozen=True, slots=True)
 class About:
-    """The author of an operation, its note and time. `shape` is the shape as which raw edits were drawn; `more` has all other fields,
-    also those of later versions."""
+    """The author of an operation, its note and time, and the site where it was made. `more` has all other fields, also those of later
+    versions."""
 
     who: str = ""
     note: str = ""
-    when: float = 0
-    shape: Shape | None = None
+    when: int = 0
+    site: str = ""
     more: Mapping[str, Json] = field(default_factory=lambda: NO_MORE)
 
 
@@ -102,59 +69,56 @@ NOTHING = About()
 
 @dataclass(frozen=True, eq=False, slots=True)
 class Operation:
-    """An operation. Two operations with the same stamp are twins; the one with the greater text counts as the later one."""
+    """An operation. It changes one line at most."""
 
     stamp: Stamp
-    sets: Mapping[Name, Shape | None] = field(default_factory=lambda: NO_LAYERS)  # the new shape of each layer; None withdraws it
-    heights: Mapping[Name, Stamp] = field(default_factory=lambda: NO_HEIGHTS)  # the new height of each layer
+    line: Stamp | None = None  # the layer that it sets or puts on top
+    shape: Shape | None = None  # the layer's new shape; without a shape and `top` the layer is withdrawn
+    top: bool = False  # the layer is put on top
     undoes: Stamp | None = None
-    excludes: tuple[int, bool] | None = None  # a site, and whether it is excluded
+    excludes: tuple[str, bool] | None = None  # a site, and whether it is excluded
     seen: Stamp | None = None  # the latest change of the line that the author had seen
     about: About = NOTHING
 
     def __post_init__(self) -> None:
-        older = [one for one in (self.undoes, self.seen) if one is not None]
-        others = [*self.heights.values(), *(name for name in self.names if not is_raw(name))]
-        if any(one >= self.stamp for one in older) or any(one > self.stamp for one in others):
-            raise ValueError("an operation must refer only to older operations, and must not set a height above its own stamp")
-        object.__setattr__(self, "sets", pack_mapping(self.sets, NO_LAYERS))
-        object.__setattr__(self, "heights", pack_mapping(self.heights, NO_HEIGHTS))
+        older = (None if self.puts else self.line, self.undoes, self.seen)
+        if any(one is not None and one[0] >= self.stamp[0] for one in older):
+            raise ValueError("an operation must refer only to operations with a smaller count")
 
     def __lt__(self, other: Operation) -> bool:
-        return self.stamp < other.stamp or self.stamp == other.stamp and self.text() < other.text()
-
-    def is_same(self, other: Operation) -> bool:
-        return self is other or self.stamp == other.stamp and self.text() == other.text()
+        return self.stamp < other.stamp
 
     @property
-    def names(self) -> set[Name]:
-        """Return the names of the layers that the operation sets or puts on top."""
-        return {*self.sets, *self.heights}
+    def site(self) -> str:
+        return self.about.site
 
     @property
-    def site(self) -> int:
-        return self.stamp[1] // SEATS
+    def puts(self) -> bool:
+        """Return whether the operation puts a new layer."""
+        return self.line == self.stamp
 
     @property
-    def is_empty(self) -> bool:
-        """Return whether the operation does nothing at all."""
-        return not self.sets and not self.heights and self.undoes is None and self.excludes is None
+    def sets(self) -> bool:
+        """Return whether the operation gives its line a shape, or withdraws it."""
+        return self.line is not None and (self.shape is not None or not self.top)
+
+    @property
+    def withdraws(self) -> bool:
+        return self.line is not None and self.shape is None and not self.top
 
     def written(self) -> dict[str, Json]:
-        """Return the operation as a JSON value, in the form of journals and messages. Leave out empty fields."""
+        """Return the operation as a JSON value, in the form of journals and messages. Leave out empty fields, and its own name."""
         about = self.about
         fields: dict[str, Json] = {
-            "sets": [[list(name), written_shape(name, shape)] for name, shape in self.sets.items()],
-            "heights": [[list(name), list(height)] for name, height in self.heights.items()],
-            "undoes": written_stamp(self.undoes), "seen": written_stamp(self.seen),
-            "excludes": None if self.excludes is None else [*self.excludes],
-            "who": about.who, "note": about.note, "when": about.when or None,
-            "shape": None if about.shape is None else [*about.shape], **about.more}
-        return {"stamp": [*self.stamp], **{name: value for name, value in fields.items() if value not in (None, [], "")}}
+            "stamp": [*self.stamp], "site": about.site, "layer": None if self.puts else written_stamp(self.line),
+            "shape": None if self.shape is None else written_shape(self.shape), "top": self.top,
+            "undoes": written_stamp(self.undoes), "excludes": None if self.excludes is None else [*self.excludes],
+            "seen": written_stamp(self.seen), "who": about.who, "note": about.note, "when": about.when}
+        return {**{name: value for name, value in fields.items() if value not in EMPTY}, **about.more}
 
     def text(self) -> str:
-        """Return a text that is equal for equal operations, and different for different ones."""
-        return json.dumps(self.written(), sort_keys=True)
+        """Return the text that the operation's hash is made of."""
+        return json.dumps({**self.written(), "stamp": self.stamp[0]}, ensure_ascii=False, separators=(",", ":"), sort_keys=True)
 
 
 @dataclass(frozen=True, eq=False, slots=True)
@@ -168,79 +132,57 @@ class Unreadable(Operation):
         return dict(self.value)
 
 
+def name_of(one: Operation) -> Stamp:
+    """Return the stamp of an operation: its count, and the hash of its text. Raise UnicodeEncodeError if the text has a lone surrogate."""
+    digest = hashlib.sha256(one.text().encode()).digest()[:HASH]
+    return one.stamp[0], base64.urlsafe_b64encode(digest).decode().rstrip("=")
+
+
+def named(one: Operation) -> Operation:
+    """Return an operation whose stamp has its count alone under the name that its text gives it."""
+    stamp = name_of(one)
+    return replace(one, stamp=stamp, line=stamp if one.puts else one.line)
+
+
+def describe_act(one: Operation, undone: Operation | None) -> str:
+    """Return what an operation does, in a word of live/PROTOCOL.md. `undone` is what it undoes, if that is known."""
+    if one.undoes is not None:
+        return "redo" if undone is not None and undone.undoes is not None else "undo"
+    if one.excludes is not None:
+        return "exclude" if one.excludes[1] else "include"
+    return "put" if one.puts else "top" if one.top else "withdraw" if one.shape is None else "change"
+
+
 def sort_by_stamp(operations: Iterable[Operation]) -> list[Operation]:
-    """Return operations in the order of their stamps; twins in the order of their texts."""
-    found = sorted(operations, key=lambda one: one.stamp)
-    has_twins = any(one.stamp == other.stamp for one, other in zip(found, found[1:]))
-    return sorted(found) if has_twins else found
-
-
-def is_raw(name: Name) -> TypeGuard[RawName]:
-    return len(name) == 3
-
-
-def is_line(name: Name) -> TypeGuard[Stamp]:
-    """Return whether a name is a stamp, which names a line, and not the name of a raw edit."""
-    return len(name) == 2
+    return sorted(operations, key=lambda one: one.stamp)
 
 
 def written_stamp(stamp: Stamp | None) -> Json:
     return None if stamp is None else [*stamp]
 
 
-def written_shape(name: Name, shape: Shape | None) -> Json:
-    """Return the JSON value of a shape; for a raw edit only its value."""
-    if shape is None:
-        return None
-    return shape.value if is_raw(name) else [*shape]
-
-
-def raw_shape(name: RawName, value: int) -> Shape:
-    """Return the shape of a raw edit, which is in force until the next one of its object."""
-    kind, index, step = name
-    return Shape(kind, index, index, step, None, value)
-
-
-def line_of(one: Operation, name: Name) -> Stamp:
-    """Return the line of a layer that an operation set. The line of a shape is its name. The line of a raw edit is the operation's stamp,
-    or its height if it has one, as in operations of form 2 and in repeated ones."""
-    return name if is_line(name) else one.heights.get(name, one.stamp)
+def written_shape(shape: Shape) -> Json:
+    return [*shape[:5], [*shape.value] if isinstance(shape.value, tuple) else shape.value]
 
 
 # What people do
 
-def put(stamp: Stamp, shape: Shape, about: About = NOTHING) -> Operation:
+def put(count: int, shape: Shape, about: About = NOTHING) -> Operation:
     """Put a new layer on top of all."""
-    return Operation(stamp, {stamp: shape}, about=about)
+    own = (count, "")
+    return named(Operation(own, own, shape, about=about))
 
 
-def lift(stamp: Stamp, line: Stamp, about: About = NOTHING) -> Operation:
+def lift(count: int, line: Stamp, about: About = NOTHING) -> Operation:
     """Put a line on top, with whatever shape it has now and later."""
-    return Operation(stamp, heights={line: stamp}, about=about)
+    return named(Operation((count, ""), line, top=True, about=about))
 
 
-def edit(stamp: Stamp, values: Mapping[RawName, int | None], about: About = NOTHING) -> Operation:
-    """Make raw edits. Each is in force until the next one of its object. The value None withdraws an edit."""
-    return Operation(stamp, {name: None if value is None else raw_shape(name, value) for name, value in values.items()},
-                     about=about)
-
-
-def undo(stamp: Stamp, undone: Operation, about: About = NOTHING) -> Operation:
+def undo(count: int, undone: Operation, about: About = NOTHING) -> Operation:
     """Undo an operation, as if it had never been made. Redo is the undo of an undo."""
-    return Operation(stamp, undoes=undone.stamp, about=about)
+    return named(Operation((count, ""), undoes=undone.stamp, about=about))
 
 
-def exclude(stamp: Stamp, site: int, is_out: bool, about: About = NOTHING) -> Operation:
+def exclude(count: int, site: str, is_out: bool, about: About = NOTHING) -> Operation:
     """Ignore all past and future operations of a site if `is_out`; otherwise include them again."""
-    return Operation(stamp, excludes=(site, is_out), about=about)
-
-
-def restamp(operations: Iterable[Operation], stamps: Mapping[Stamp, Stamp]) -> list[Operation]:
-    """Return these operations with new stamps, also where they refer to each other. `stamps` maps old stamps to new ones. Raise ValueError
-    if one refers to an operation that keeps a later stamp."""
-    def renamed(name: Name) -> Name:
-        return stamps.get(name, name) if is_line(name) else name
-    return [Operation(stamps[one.stamp], {renamed(name): shape for name, shape in one.sets.items()},
-                      {renamed(name): stamps.get(height, height) for name, height in one.heights.items()},
-                      None if one.undoes is None else stamps.get(one.undoes, one.undoes), one.excludes,
-                      None if one.seen is None else stamps.get(one.seen, one.seen), one.about) for one in operations]
+    return named(Operation((count, ""), excludes=(site, is_out), about=about))

@@ -7,11 +7,11 @@ from __future__ import annotations
 
 from typing import AbstractSet, Iterable, Iterator
 
-from .layers import Layer, Stretch, columns, sort_from_top, split_by_topmost
-from .operations import END, Name, RawName, is_raw
+from .layers import Layer, Stretch, columns, kinds_of, sort_from_top, split_by_topmost
+from .operations import END, Stamp
 from .road import Road
 
-Edits = dict[RawName, "int | None"]
+Edits = dict[tuple[str, int, int], "int | None"]
 """Edits by kind, object and step: the value, or None, which withdraws the edit."""
 
 MOST_STRETCHES = 64  # stretches from which on whole kinds are compared
@@ -23,7 +23,6 @@ def difference(before: Road, after: Road, within: set[Stretch] | None = None) ->
         return {}
     edits: Edits = {}
     names = changed_layers(before, after)
-    objects = {name[:2] for name in names if is_raw(name)}
     where = changed_stretches(before, after, names)
     for stretch in sorted(merge_stretches(where if within is None else intersect(where, within))):
         kind, first, last, _, _ = stretch
@@ -31,7 +30,7 @@ def difference(before: Road, after: Road, within: set[Stretch] | None = None) ->
         if kind == "start":
             lines = ((index, index, start_changes(before, index), start_changes(after, index)) for index in range(first, last + 1))
         else:
-            lines = compare_objects(before, after, stretch, objects)
+            lines = compare_objects(before, after, stretch)
         for low, high, old, new in lines:
             steps = sorted(step for step in old.keys() | new.keys() if old.get(step) != new.get(step))
             edits.update(((kind, index, step), new.get(step)) for index in range(low, high + 1) for step in steps)
@@ -58,22 +57,19 @@ def all_edits(road: Road) -> Edits:
     return difference(road.empty(), road)
 
 
-def changed_layers(before: Road, after: Road) -> set[Name]:
+def changed_layers(before: Road, after: Road) -> set[Stamp]:
     """Return the layers that differ between two roads."""
     old, new = before.layers, after.layers
     step = after.step
-    names: Iterable[Name] = (step.names if step is not None and step.before() is before else old.keys() | new.keys())
+    names: Iterable[Stamp] = (step.names if step is not None and step.before() is before else old.keys() | new.keys())
     return {name for name in names if old.get(name) is not new.get(name) and old.get(name) != new.get(name)}
 
 
-def changed_stretches(before: Road, after: Road, names: Iterable[Name]) -> set[Stretch]:
+def changed_stretches(before: Road, after: Road, names: Iterable[Stamp]) -> set[Stretch]:
     """Return the stretches of these layers on two roads. The roads do not differ elsewhere if these are all changed layers. A change of a
     slowing chance can change the slow-to-start chance of its zone at any step."""
-    found: set[Stretch] = set()
-    for name in names:
-        some = [layer for road in (before, after) for layer in [road.layers.get(name)] if layer is not None]
-        ends = [road.end_of(layer) for layer in some for road in (before, after)]
-        found.update((layer.kind, layer.first, layer.last, layer.begin, max(ends)) for layer in some)
+    found = {(kind, layer.first, layer.last, layer.begin, layer.end) for name in names for road in (before, after)
+             for layer in [road.layers.get(name)] if layer is not None for kind in kinds_of(layer.kind)}
     return {one for one in found if one[0] != "start"} | {
         ("start", first, last, 0, END) for kind, first, last, *_ in found if kind in ("slow", "start")}
 
@@ -95,57 +91,58 @@ def merge_stretches(some: set[Stretch]) -> set[Stretch]:
     return {(kind, min(one[1] for one in ones), max(one[2] for one in ones), 0, END) for kind, ones in kinds.items()}
 
 
-def compare_objects(before: Road, after: Road, stretch: Stretch,
-             objects: AbstractSet[tuple[str, int]]) -> Iterator[tuple[int, int, dict[int, int], dict[int, int]]]:
+def compare_objects(before: Road, after: Road, stretch: Stretch) -> Iterator[tuple[int, int, dict[int, int], dict[int, int]]]:
     """Yield groups of neighbouring objects that may differ between two roads in a stretch: the first object, the last one, and the value
-    changes of each before and after. `objects` are those whose raw edits differ."""
+    changes of each before and after."""
     kind, first, last, begin, end = stretch
     wide = kind, first, last, begin - 1, end
     olds, news = before.touching(wide), after.touching(wide)
     gone, come = set(olds).difference(news), set(news).difference(olds)
     layers = sort_from_top([*news, *gone])
     not_old, not_new = ({place for place, one in enumerate(layers) if one in some} for some in (come, gone))
-    for low, high, here in columns(layers, first, last, single_objects((before, after), kind, first, last)):
+    for low, high, here in columns(layers, first, last, single_objects(kind, first, last)):
         top = next((at for at, place in enumerate(here) if place in not_old or place in not_new), None)
-        if (kind, low) not in objects and (top is None or all(one is not None for _, _, one in split_by_topmost(
-                (layers[place] for place in here[:top]), begin - 1, min(END, end + 1)))):
+        if top is None or all(one is not None for _, _, one in split_by_topmost(
+                (layers[place] for place in here[:top]), begin - 1, min(END, end + 1))):
             continue  # the layers are the same, or those that differ are completely covered
         yield (low, high, value_changes(before, kind, low, begin, end, (layers[place] for place in here if place not in not_old)),
                value_changes(after, kind, low, begin, end, (layers[place] for place in here if place not in not_new)))
 
 
-def single_objects(roads: Iterable[Road], kind: str, first: int, last: int) -> set[int]:
-    """Return the objects at which groups of neighbours must be cut, since they may differ from their neighbours by the plan or by raw
-    edits."""
-    if kind != "block":
-        return set(range(first, last + 1))
-    return {cut for road in roads if road.raws for index in range(first, last + 1) if (kind, index) in road.raws
-            for cut in (index, index + 1)}
+def single_objects(kind: str, first: int, last: int) -> range:
+    """Return the objects at which groups of neighbours must be cut, since they may differ from their neighbours by the plan."""
+    return range(first, last + 1) if kind != "block" else range(0)
 
 
-def value_changes(road: Road, kind: str, index: int, begin: int, end: int, shapes: Iterable[Layer]) -> dict[int, int]:
-    """Return the steps from `begin` to `end` at which an object's value changes, with the new values. `shapes` are all shapes on the
+def value_changes(road: Road, kind: str, index: int, begin: int, end: int, layers: Iterable[Layer]) -> dict[int, int]:
+    """Return the steps from `begin` to `end` at which an object's value changes, with the new values. `layers` are all layers on the
     object at these steps, from the top down."""
     found: dict[int, int] = {}
     plan = last = road.plan(kind, index)
     assert plan is not None
-    for since, _, layer in split_by_topmost(road.with_raws(kind, index, shapes), begin - 1, min(END, end + 1)):
-        value = plan if layer is None else layer.value
+    for since, _, layer in split_by_topmost(layers, begin - 1, min(END, end + 1)):
+        value = plan if layer is None else value_of(layer)
         if value != last:
             found[since] = last = value
     found.pop(begin - 1, None)
     return found
 
 
+def value_of(layer: Layer) -> int:
+    """Return the value of a part of a layer."""
+    assert isinstance(layer.value, int)
+    return layer.value
+
+
 def start_changes(road: Road, index: int) -> dict[int, int]:
     """Return the steps at which the slow-to-start chance of a zone changes, with the new values. The plan has no such chance. After the
     first layer of this kind has ended, the chance equals the slowing chance of the zone wherever no layer covers it."""
-    slow = value_changes(road, "slow", index, 0, END, sort_from_top(road.touching(("slow", index, index, 0, END))))
+    slow = value_changes(road, "slow", index, 0, END, road.on_object("slow", index))
     found: dict[int, int] = {}
     plan, last = road.plan("slow", index), None
     for since, until, layer in split_by_topmost(road.on_object("start", index), 0, END):
         if layer is not None:
-            values: dict[int, int | None] = {since: layer.value}
+            values: dict[int, int | None] = {since: value_of(layer)}
         elif found:
             values = {since: next((value for step, value in reversed(slow.items()) if step <= since), plan),
                       **{step: value for step, value in slow.items() if since < step < until}}

@@ -6,22 +6,21 @@ elsewhere, by `server.checks`.
 from __future__ import annotations
 
 import json
+import re
 import sys
 import unicodedata
 from typing import Callable, Mapping, Sequence, TypeVar
 
-from .operations import (NO_MORE, About, Json, Name, Operation, RawName, Shape, Stamp, Unreadable, is_line, is_raw, raw_shape,
-                         intern_int)
+from .operations import CAPACITY, NO_MORE, About, Capacity, Json, Operation, Shape, Stamp, Unreadable, intern_int, name_of
 
-GREATEST_COUNT, GREATEST_NUMBER, GREATEST_VALUE = 1 << 48, 65_535, (1 << 32) - 1
-MOST_RAW = 1_200  # raw edits of an operation
-MOST_SETS = MOST_RAW + 1  # layers of an operation: raw edits that it withdraws, and the shape in their place
-MOST_OBJECTS = 600  # objects of all shapes of an operation
+GREATEST_COUNT, GREATEST_VALUE = (1 << 53) - 1, (1 << 32) - 1
+MOST_OBJECTS = 600  # objects of a shape
 MOST_MORE = 1_000  # bytes of fields that this version does not know
 LONGEST_NAME, LONGEST_NOTE = 64, 200  # characters
-SITES = range(1, 1_024)
+SITE = re.compile(r"[A-Za-z0-9.-]{1,31}-[0-9a-f]{8}")
+HASH = re.compile(r"[A-Za-z0-9_-]{22}")
 CONTROLS = frozenset({"Cc", "Cf", "Co", "Cs"})  # control characters, direction marks, private characters and lone surrogates
-KNOWN = ("stamp", "sets", "heights", "undoes", "seen", "excludes", "who", "note", "when", "shape")
+KNOWN = ("stamp", "site", "layer", "shape", "top", "undoes", "excludes", "seen", "who", "note", "when")
 T = TypeVar("T")
 
 
@@ -30,36 +29,69 @@ class Malformed(ValueError):
 
 
 def read_operation(value: Json) -> Operation:
-    """Return the operation that a JSON value describes. Raise `Malformed` if it describes none."""
+    """Return the operation that a JSON value describes. Raise `Malformed` if it describes none, or has another name than its text."""
     if not isinstance(value, dict):
         raise Malformed("an operation must be a JSON object")
-    more = {name: one for name, one in value.items() if name not in KNOWN} or NO_MORE
-    if more and len(json.dumps(more)) > MOST_MORE:
-        raise Malformed(f"the fields that this version does not know must have at most {MOST_MORE} bytes")
     stamp = read_stamp(value.get("stamp"))
+    shape, layer = read_optional(value, "shape", read_shape), read_optional(value, "layer", read_stamp)
+    top = False if value.get("top") is None else value["top"]
+    if type(top) is not bool:
+        raise Malformed("`top` must be true or false")
+    if layer == stamp:
+        raise Malformed("an operation must refer only to operations with a smaller count: leave `layer` out to put a new one")
     about = About(read_text(value, "who", LONGEST_NAME), read_text(value, "note", LONGEST_NOTE), read_time(value.get("when")),
-                  None if value.get("shape") is None else read_shape(value["shape"]), more)
+                  read_site(value.get("site")), read_more(value))
     try:
-        one = Operation(stamp, read_sets(value.get("sets"), stamp), read_heights(value.get("heights")),
-                        read_optional(value, "undoes", read_stamp), read_optional(value, "excludes", read_exclusion),
-                        read_optional(value, "seen", read_stamp), about)
+        one = Operation(stamp, stamp if layer is None and shape is not None else layer, shape, top, read_optional(
+            value, "undoes", read_stamp), read_optional(value, "excludes", read_exclusion), read_optional(value, "seen", read_stamp), about)
+        name = name_of(one)
+    except UnicodeEncodeError:
+        raise Malformed("the operation has a lone surrogate") from None
     except ValueError as fault:
         raise Malformed(str(fault)) from None
-    too_much = why_too_large(one) or why_too_much(one)
-    if too_much or one.is_empty:
-        raise Malformed(too_much or "the operation does nothing")
+    wrong = why_no_operation(one) or (None if name == stamp else f"the hash of its text is {name[1]}, not {stamp[1]}")
+    if wrong is not None:
+        raise Malformed(wrong)
     return one
 
 
-def why_too_much(one: Operation) -> str | None:
-    """Return a sentence that says that an undo or an exclusion does something else, too; None if it does not. They are listed only in the
-    lines of what they undo and of the site, so layers that they set would be in no list; and an exclusion counts although its site is
-    excluded."""
-    if one.undoes is not None and (one.names or one.excludes is not None):
-        return f"the operation {list(one.stamp)} undoes another one, so it must do nothing else: make two operations of it"
-    if one.excludes is not None and (one.names or one.seen is not None):
-        return f"the operation {list(one.stamp)} excludes a site or includes it, so it must do nothing else: make two operations of it"
+def why_no_operation(one: Operation) -> str | None:
+    """Return a sentence that says why an operation does nothing, or too much; None if it does one thing. An undo and an exclusion are
+    listed only in the line of what they undo and of the site; and an exclusion counts although its site is excluded."""
+    stamp = list(one.stamp)
+    does = [one.line is not None, one.undoes is not None, one.excludes is not None]
+    if not any(does):
+        return f"the operation {stamp} does nothing"
+    if sum(does) > 1 or one.line is None and (one.top or one.seen is not None):
+        return f"the operation {stamp} undoes another one or excludes a site, so it must do nothing else: make two operations of it"
+    if one.puts and one.top:
+        return f"the operation {stamp} puts a new layer, which is on top already: leave `top` out"
+    if one.excludes is not None and one.excludes[0] == one.site:
+        return f"site {one.site} cannot exclude or include itself: another site must do it"
     return None
+
+
+def read_more(value: Mapping[str, Json]) -> Mapping[str, Json]:
+    """Return the fields of an operation that this version does not know. Their numbers must be whole, since texts of others differ."""
+    more = {name: one for name, one in value.items() if name not in KNOWN}
+    if not more:
+        return NO_MORE
+    try:
+        is_short = len(json.dumps(more)) <= MOST_MORE
+    except RecursionError:  # lists in lists, very deep
+        is_short = False
+    if not is_short:
+        raise Malformed(f"the fields that this version does not know must have at most {MOST_MORE} bytes")
+    require_whole([*more.values()])
+    return more
+
+
+def require_whole(value: Json) -> None:
+    """Raise `Malformed` if a number in a JSON value is not whole, or too large for all readers of JSON."""
+    if isinstance(value, float) or type(value) is int and abs(value) > GREATEST_COUNT:
+        raise Malformed(f"{value} is not a whole number of at most {GREATEST_COUNT} in size, as all numbers of an operation must be")
+    for one in value.values() if isinstance(value, dict) else value if isinstance(value, list) else ():
+        require_whole(one)
 
 
 def read_kept_operation(value: Json) -> Operation:
@@ -72,19 +104,8 @@ def read_kept_operation(value: Json) -> Operation:
         try:
             stamp = read_stamp(value.get("stamp"))
         except Malformed:
-            stamp = 0, 0
+            stamp = 0, ""
         return Unreadable(stamp, value=value, why=str(fault))
-
-
-def why_too_large(one: Operation) -> str | None:
-    """Return a sentence that says why an operation is too large; None if it is not."""
-    objects = sum(shape.last - shape.first + 1 for name, shape in one.sets.items() if shape is not None and is_line(name))
-    raws = sum(is_raw(name) for name in one.sets)
-    if objects > MOST_OBJECTS:
-        return f"the shapes of an operation can cover at most {MOST_OBJECTS} objects, not {objects}"
-    if raws > MOST_RAW or len(one.sets) > MOST_SETS or len(one.heights) > MOST_SETS:
-        return f"an operation can have at most {MOST_RAW} raw edits"
-    return None
 
 
 def read_optional(value: Mapping[str, Json], name: str, read: Callable[[Json], T]) -> T | None:
@@ -92,21 +113,17 @@ def read_optional(value: Mapping[str, Json], name: str, read: Callable[[Json], T
 
 
 def read_stamp(value: Json) -> Stamp:
-    """Return a stamp: a count and a number."""
-    count, number = read_row(value, 2, "a stamp must be a count and a number")
-    return whole(count, GREATEST_COUNT, "count"), whole(number, GREATEST_NUMBER, "number")
+    """Return a stamp: a count and a hash."""
+    count, name = read_row(value, 2, "a stamp must be a count and a hash")
+    if not isinstance(name, str) or not HASH.fullmatch(name):
+        raise Malformed("the hash of a stamp must be 22 characters of base64")
+    return whole(count, GREATEST_COUNT, "count"), name
 
 
-def read_name(value: Json) -> Name:
-    """Return a layer's name: a stamp, or kind, object and step."""
-    if isinstance(value, (list, tuple)) and len(value) == 3:
-        return read_raw_name(value)
-    return read_stamp(value)
-
-
-def read_raw_name(value: Json) -> RawName:
-    kind, index, step = read_row(value, 3, "the name of a raw edit must be a kind, an object and a step")
-    return word(kind), whole(index, GREATEST_VALUE, "object"), whole(step, GREATEST_VALUE, "step")
+def read_site(value: Json) -> str:
+    if not isinstance(value, str) or not SITE.fullmatch(value):
+        raise Malformed("a site must be 1 to 31 characters of A-Z, a-z, 0-9, dot and hyphen, a hyphen and 8 hex digits")
+    return sys.intern(value)
 
 
 def read_shape(value: Json) -> Shape:
@@ -114,45 +131,27 @@ def read_shape(value: Json) -> Shape:
     kind, first, last, begin, end, number = read_row(value, 6, "a shape must have six parts: kind, first, last, from, until, value")
     shape = Shape(word(kind), whole(first, GREATEST_VALUE, "object"), whole(last, GREATEST_VALUE, "object"),
                   whole(begin, GREATEST_VALUE, "step"), None if end is None else whole(end, GREATEST_VALUE, "step"),
-                  whole(number, GREATEST_VALUE, "value"))
+                  read_capacity(number) if kind == CAPACITY else whole(number, GREATEST_VALUE, "value"))
     if shape.first > shape.last or shape.end is not None and shape.end <= shape.begin:
         raise Malformed("a shape must begin before it ends, and its first object must not be after its last")
+    if shape.last - shape.first >= MOST_OBJECTS:
+        raise Malformed(f"a shape can cover at most {MOST_OBJECTS} objects, not {shape.last - shape.first + 1}")
     return shape
 
 
-def read_sets(value: Json, stamp: Stamp) -> dict[Name, Shape | None]:
-    """Return the shapes that the operation with this stamp sets. Where the name of a layer equals the stamp, use the same object."""
-    return {stamp if name == stamp else name: read_set(name, shape) for name, shape in read_pairs(value, "sets")}
+def read_capacity(value: Json) -> Capacity:
+    """Return the value of a capacity: cars per hour, limit, slowing chance and slow-to-start chance."""
+    cars, limit, slow, start = (whole(one, GREATEST_VALUE, "value") for one in read_row(
+        value, 4, "a capacity must have four parts: cars per hour, limit, slowing chance, slow-to-start chance"))
+    return cars, limit, slow, start
 
 
-def read_set(name: Name, value: Json) -> Shape | None:
-    if value is None:
-        return None
-    return raw_shape(name, whole(value, GREATEST_VALUE, "value")) if is_raw(name) else read_shape(value)
-
-
-def read_heights(value: Json) -> dict[Name, Stamp]:
-    return {name: read_stamp(height) for name, height in read_pairs(value, "heights")}
-
-
-def read_pairs(value: Json, what: str) -> Sequence[tuple[Name, Json]]:
-    """Return pairs whose first part is the name of a layer. No name may occur twice."""
-    if value is None:
-        return ()
-    if not isinstance(value, (list, tuple)):
-        raise Malformed(f"`{what}` must be a list of pairs")
-    pairs = [(read_name(name), one) for name, one in (read_row(pair, 2, f"`{what}` must be a list of pairs") for pair in value)]
-    if len({name for name, _ in pairs}) < len(pairs):
-        raise Malformed(f"`{what}` names a layer twice")
-    return pairs
-
-
-def read_exclusion(value: Json) -> tuple[int, bool]:
+def read_exclusion(value: Json) -> tuple[str, bool]:
     """Return a site and whether it is excluded."""
     site, is_out = read_row(value, 2, "an exclusion must be a site and true or false")
-    if type(site) is not int or site not in SITES or type(is_out) is not bool:
+    if type(is_out) is not bool:
         raise Malformed("an exclusion must be a site and true or false")
-    return site, is_out
+    return read_site(site), is_out
 
 
 def read_row(value: Json, size: int, why: str) -> Sequence[Json]:
@@ -175,7 +174,7 @@ def word(value: Json) -> str:
 
 
 def read_text(value: Mapping[str, Json], name: str, most: int) -> str:
-    text = value.get(name, "")
+    text = "" if value.get(name) is None else value[name]
     if type(text) is not str or clean_text(text, most) != text:
         raise Malformed(f"`{name}` must be a string of at most {most} characters for one line, without control characters")
     return sys.intern(text)
@@ -188,10 +187,10 @@ def clean_text(value: object, most: int) -> str:
     return " ".join(plain.split())[:most].rstrip()
 
 
-def read_time(value: Json) -> float:
+def read_time(value: Json) -> int:
     """Return a time in seconds since 1970; 0 if it is missing."""
     if value is None:
         return 0
-    if not isinstance(value, (int, float)) or isinstance(value, bool) or not 0 <= value < 1 << 40:
-        raise Malformed("`when` must be a time in seconds since 1970")
+    if type(value) is not int or not 0 <= value < 1 << 40:
+        raise Malformed("`when` must be a time in whole seconds since 1970")
     return value

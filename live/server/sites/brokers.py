@@ -18,9 +18,10 @@ KEEP_ALIVE = 30  # seconds
 OTHER_PROTOCOL = 132  # the code with which a broker refuses MQTT 5
 
 
-def new_client(options: argparse.Namespace, name: str) -> mqtt.Client:
-    """Return a client for the broker in the options. The broker stores no messages for it while it is disconnected."""
-    client = mqtt.Client(client_id=name, protocol=mqtt.MQTTv5)
+def new_client(options: argparse.Namespace) -> mqtt.Client:
+    """Return a client for the broker in the options. The broker names it, so that a copy of the whole machine can connect, too. The
+    broker stores no messages for it while it is disconnected."""
+    client = mqtt.Client(protocol=mqtt.MQTTv5)
     client.reconnect_delay_set(1, 5)
     if options.broker_user:
         password = options.broker_password.read_text().strip() if options.broker_password else None

@@ -4,7 +4,8 @@
     if floods.count_message(sender): ..    the sender is over its limit: ignore this message
     floods.add_work(sender, seconds)       a message that kept the server busy counts as many messages
 
-A sender is a folder, `STRANGERS` or `UNSEALED`.
+A sender is a run that has announced itself, or one of four for all others. So nobody without the key can make a site ignore another
+one by playing its messages again.
 """
 from __future__ import annotations
 
@@ -14,7 +15,8 @@ from typing import Callable, TypeVar
 MOST_SENDERS = 256  # senders that are remembered
 MESSAGE_BURST, MESSAGES_PER_SECOND = 6_000, 500  # messages that a sender may send in a burst, and per second
 WORK = 1_000  # messages: a second of work counts as this many
-STRANGERS, UNSEALED = "", "unsealed"  # sender names for all unknown folders, and for unsealed messages
+STRANGERS, UNSEALED = "strangers", "unsealed"  # runs that have not announced themselves; messages without a valid seal
+ANNOUNCEMENTS, REPEATS = "announcements", "repeats"  # announcements; messages that bring nothing new
 FLOOD = 30.0  # seconds for which a sender over its limit is ignored
 V = TypeVar("V")
 
@@ -31,7 +33,7 @@ class Floods:
     def count_message(self, sender: str) -> bool:
         """Count one more message of a sender. Return whether the sender is over its limit."""
         now = self._clock()
-        if now < self._until.get(sender, now):
+        if self.is_ignored(sender):
             return True
         left, when = self._left.pop(sender, (float(MESSAGE_BURST), now))
         left = min(MESSAGE_BURST, left + MESSAGES_PER_SECOND * (now - when)) - 1
@@ -42,6 +44,9 @@ class Floods:
             drop_oldest(self._until)
         return left < 0
 
+    def is_ignored(self, sender: str) -> bool:
+        return self._clock() < self._until.get(sender, 0.0)
+
     def add_work(self, sender: str, seconds: float) -> None:
         """Count a message that kept the server busy for some seconds as many messages."""
         left, when = self._left.get(sender, (float(MESSAGE_BURST), self._clock()))
@@ -50,8 +55,7 @@ class Floods:
 
     def ignored_senders(self) -> list[str]:
         """Return the senders that are ignored now."""
-        now = self._clock()
-        return [sender for sender, until in list(self._until.items()) if now < until]
+        return [sender for sender in [*self._until] if self.is_ignored(sender)]
 
 
 def drop_oldest(entries: dict[str, V]) -> None:

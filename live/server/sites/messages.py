@@ -6,11 +6,11 @@ from typing import Mapping
 
 from ..journal.journal import to_json
 from ..model.operations import Json
-from ..model.reading import Malformed, clean_text, read_row, read_stamp
+from ..model.reading import Malformed, clean_text, read_row, read_site, read_stamp
 from .sums import MOST_RANGES, Bound
 
 LONGEST_HASH = 40
-NUMBERS = range(1, 1_024)
+LONGEST_HOST = 64
 
 
 class InvalidMessage(Exception):
@@ -27,19 +27,22 @@ def read_message(body: bytes) -> Mapping[str, Json]:
     return value if isinstance(value, dict) else {}
 
 
-def site_of(folder: str, value: Mapping[str, Json]) -> tuple[str, str, int, str]:
-    """Return folder, run, number and road of a site, from its announcement. `folder` is the sender that the seal names, or empty."""
-    said, run, number, road = map(value.get, ("folder", "run", "site", "road"))
-    if type(said) is not str or type(number) is not int or number not in NUMBERS or type(road) is not str:
+def site_of(value: Mapping[str, Json]) -> tuple[str, str, str, int]:
+    """Return site, host, road and greatest count from an announcement."""
+    said, host, road, count = map(value.get, ("site", "host", "road", "count"))
+    try:
+        site = read_site(said)
+    except Malformed as fault:
+        raise InvalidMessage(f"it does not say which site sent it: {fault}") from None
+    if type(host) is not str or type(road) is not str or type(count) is not int or count < 0:
         raise InvalidMessage("it does not say which site sent it")
-    return token_of(folder or said), clean_text(run or "", 40), number, clean_text(road, 40)
+    return site, clean_text(host, LONGEST_HOST), clean_text(road, LONGEST_HASH), count
 
 
-def sum_of(folder: str, value: Mapping[str, Json]) -> tuple[str, str, list[tuple[Bound, str]]]:
-    """Return folder, hash of all operations, and hashes by ranges of stamps, from a message. `folder` is the sender that the seal names,
-    or empty."""
-    said, theirs, written = map(value.get, ("folder", "sum", "ranges"))
-    if type(said) is not str or type(theirs) is not str or not isinstance(written, list) or not 1 <= len(written) <= MOST_RANGES:
+def sum_of(value: Mapping[str, Json]) -> tuple[str, list[tuple[Bound, str]]]:
+    """Return the hash of all operations, and hashes by ranges of stamps, from a message."""
+    theirs, written = value.get("sum"), value.get("ranges")
+    if type(theirs) is not str or not isinstance(written, list) or not 1 <= len(written) <= MOST_RANGES:
         raise InvalidMessage("it has no valid hash of the site's operations")
     try:
         rows = [read_row(one, 2, "a range must be a stamp and a hash") for one in written]
@@ -49,18 +52,13 @@ def sum_of(folder: str, value: Mapping[str, Json]) -> tuple[str, str, list[tuple
     begins = [begin for begin, _ in ranges if begin is not None]
     if rows[0][0] is not None or any(one >= other for one, other in zip(begins, begins[1:])):
         raise InvalidMessage("the ranges of its hashes are not in order")
-    return token_of(folder or said), clean_text(theirs, LONGEST_HASH), ranges
+    return clean_text(theirs, LONGEST_HASH), ranges
 
 
 def read_hash(value: Json) -> str:
     if not isinstance(value, str) or len(value) > LONGEST_HASH:
         raise Malformed("a hash must be a short string")
     return value
-
-
-def token_of(folder: str) -> str:
-    """Return a folder's identifier, without the path that older sites append to it."""
-    return clean_text(folder, 40).partition("-")[0]
 
 
 def form_of(value: Mapping[str, Json]) -> int:

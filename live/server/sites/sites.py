@@ -1,8 +1,8 @@
 """Exchange shared operations with other sites, through a broker.
 
 A site sends an operation again until the broker has returned it. It acknowledges a message to the broker when the operations are on the
-disk. Every few seconds it announces itself, a hash of the operations that it holds, and a hash of the road that they give. A site that
-hears a different hash twice sends the operations that it holds. So nothing is lost if a broker is killed or stores nothing.
+disk. Every few seconds it announces itself, hashes of the operations that it holds, and a hash of the road that they give. A site that
+hears a different hash twice sends the operations that the other one may lack. So nothing is lost if a broker is killed or stores nothing.
 """
 from __future__ import annotations
 
@@ -12,7 +12,7 @@ import collections
 import hashlib
 import itertools
 import logging
-import secrets
+import socket
 import time
 from time import thread_time
 from types import TracebackType
@@ -21,18 +21,19 @@ from typing import TYPE_CHECKING, Callable, Deque, Iterator, Mapping, NamedTuple
 from ..background.supervised import supervise
 from ..journal.journal import to_json
 from ..journal.keeper import SHARED
-from ..journal.lab import FutureStamp, Lab
+from ..journal.lab import Lab
+from ..journal.naming import is_far
 from ..journal.state import SITE_FORM, State
-from ..model.operations import Json, Operation, Unreadable
+from ..model.operations import Json, Operation, Unreadable, sort_by_stamp
 from ..model.reading import LONGEST_NOTE, Malformed, clean_text
 from ..model.road import Road
 from ..roads.program import Times
 from ..tabs.refusals import Refused
 from .brokers import HEADER, LONGEST_MESSAGE, broker_of, explain_refusal, keep_connected, longest_packet, new_client
-from .floods import FLOOD, STRANGERS, UNSEALED, Floods, drop_oldest
+from .floods import ANNOUNCEMENTS, FLOOD, REPEATS, STRANGERS, UNSEALED, Floods, drop_oldest
 from .messages import InvalidMessage, form_of, read_message, site_of, sum_of
 from .peers import ANNOUNCE_EVERY, BrokerState, Peers, Site
-from .seals import LATE, Replayed, Expired, Seal, Unsealed, key_of
+from .seals import Seal, Unsealed, key_of, road_of
 from .sums import Bound, Sums, hash_of_edits, is_between
 
 if TYPE_CHECKING:
@@ -43,15 +44,14 @@ LARGE_MESSAGE = 100_000  # bytes; a longer message is read in a thread
 OPERATIONS_AT_ONCE = 500  # operations that are sent, or taken, without a pause
 READ_FOR = 0.002  # seconds of processor time for reading operations, until others get twice as long
 MOST_SENTENCES, MOST_STAY = 5, 20  # sentences that are shown: said once, and true at present
-MOST_EARLY, LONGEST_EARLY = 1_000, 2_000_000  # operations that wait until their day comes, and their bytes
+MOST_DONE = 20_000  # messages that bring nothing new and are known by their hashes
 SITES_TOPIC = "road/sites"
-LATE_SAID = (f"Messages that are more than {LATE / 60:.0f} minutes old by this site's clock were ignored: compare the clocks of the "
-             "sites. The changes will be sent again")
-SENDERS = {STRANGERS: "A sender that names no folder", UNSEALED: "A sender without this site's --site-key"}
+SENDERS = {STRANGERS: "A sender that does not announce itself", UNSEALED: "A sender without this site's --site-key",
+           ANNOUNCEMENTS: "A sender of announcements", REPEATS: "A sender of messages that bring nothing new"}
 
 
 class Pause(NamedTuple):
-    """The pause after a folder was sent operations that it may lack."""
+    """The pause after a run was sent operations that it may lack."""
 
     told: float  # when it began
     long: float  # seconds
@@ -64,19 +64,18 @@ class Sites:
 
     def __init__(self, lab: Lab, tell: Callable[[], None], options: argparse.Namespace) -> None:
         self._lab, self._keeper, self._tell, self._options = lab, lab.keeper, tell, options
-        self._road, self._id, self._run = lab.keeper.reference, lab.keeper.state.folder, secrets.token_hex(4)
         self._broker = broker_of(options.broker)
-        self._seal = Seal(self._id, key_of(options.site_key) if options.site_key else None, lab.keeper.folder / "seen.json")
+        self._seal = Seal(key_of(options.site_key) if options.site_key else None)
+        self._road, self._host = road_of(lab.keeper.reference, self._seal.key), socket.gethostname()
         self._connected, self._longest = False, LONGEST_MESSAGE  # the longest packet that the broker takes, in bytes
-        self._peers = Peers(lab, self._run, self._road, self._say, lambda: self._tell())
-        self._keeper.stamps.follow(self._peers.seconds_ahead)
+        self._peers = Peers(lab.keeper, self._road, self._seal.own)
         self._told: Deque[str] = collections.deque(maxlen=MOST_SENTENCES)
         self._sent: dict[Operation, tuple[float, float]] = {}  # when it was sent last, and the seconds until it is sent again
-        self._sums: dict[str, tuple[str, str]] = {}  # by folder: its latest hash, and this site's hash at that time
-        self._pauses: dict[str, Pause] = {}  # by folder
-        self._early: dict[str, Operation] = {}  # by hash: operations that wait until their day comes
-        self._taking: asyncio.Future[None] | None = None
+        self._sums: dict[str, tuple[str, str]] = {}  # by run: its latest hash, and this site's hash at that time
+        self._pauses: dict[str, Pause] = {}  # by run
         self._floods = Floods()
+        self._work = 0.0  # seconds of processor time that the present message has taken
+        self._done: dict[bytes, None] = {}  # hashes of messages of operations that can bring nothing new any more
         self._left_out = 0  # messages without a valid seal
         self._counted: tuple[State, int, Sums] = lab.state, 0, Sums()  # how many operations are in the hashes, and these
         self._may_answer = True  # a piece of missing operations was not sent since the last announcement
@@ -98,36 +97,29 @@ class Sites:
             task.cancel()
         self._client.disconnect()
         await self._loop.run_in_executor(None, self._client.loop_stop)
-        self._seal.end()
 
     def _new_client(self) -> mqtt.Client:
-        # Two clones of a folder, or of a whole machine, have different names, so both can connect and hear of each other.
-        client = new_client(self._options, f"live-{self._id}-{self._run}")
+        client = new_client(self._options)
         client.on_message, client.on_connect, client.on_disconnect = self._on_message, self._on_connect, self._on_gone
         return client
 
     def state(self) -> BrokerState:
         """Return the state for tabs: the connection, the sites with which this one exchanges operations, and sentences."""
-        self._peers.forget_silent()
         return {"state": "connected" if self._connected else "away", "unsent": len(self._unreturned()),
-                "sites": [{"site": site.number, "when": int(site.when)} for site in self._peers.others()],
+                "sites": [{"site": name, "when": int(site.when)} for name, site in self._peers.others().items()],
                 "told": list(self._told), "stays": list(itertools.islice(self._notices(), MOST_STAY)),
                 "sealed": self._seal.key is not None, "left_out": self._left_out}
 
     def _notices(self) -> Iterator[str]:
         """Yield the sentences that are true at present."""
-        yield from self._peers.own_state()
         if self._seal.key is None:
             yield "Anybody who can connect to the broker can send changes: start all sites with --site-key"
-        for folder in self._floods.ignored_senders():
-            sender = SENDERS.get(folder) or self._peers.describe_site(folder)
-            yield f"{sender} sends too many messages: they are ignored for {FLOOD:.0f} seconds"
-        if self._early:
-            yield (f"{len(self._early)} changes are stamped more than a day ahead of this server's clock: they take effect when that day "
-                   f"comes")
+        for sender in self._floods.ignored_senders():
+            yield (f"{SENDERS.get(sender) or self._peers.describe_site(sender)} sends too many messages: they are ignored for "
+                   f"{FLOOD:.0f} seconds")
         if self._left_out:
             yield f"{self._left_out} messages were ignored: they are not sealed with this site's --site-key"
-        yield from self._peers.their_state()
+        yield from self._peers.notices()
 
     def _say(self, sentence: str) -> None:
         """Show a sentence on the page and log it, unless it is shown already."""
@@ -141,6 +133,7 @@ class Sites:
     def _on_connect(self, client: mqtt.Client, _data: object, _flags: object, code: object, properties: object) -> None:
         if code == 0:
             self._longest = longest_packet(properties)
+            self._seal.begin_run()
             client.subscribe([(f"road/{self._road}/operations", 1), (f"road/{self._road}/sum", 0), (SITES_TOPIC, 0)])
         self._loop.call_soon_threadsafe(self._is_connected, None if code == 0 else explain_refusal(code))
 
@@ -150,31 +143,31 @@ class Sites:
     def _on_message(self, _client: mqtt.Client, _data: object, message: mqtt.MQTTMessage) -> None:
         # The broker's thread acknowledges the message when this returns, so wait until the operations are on the disk.
         try:
-            folder, body = self._seal.open(message.topic, message.payload)
-        except Replayed:
-            return
-        except Expired as late:
-            self._loop.call_soon_threadsafe(self._peers.hear_clock, late.folder, late.when)
-            self._loop.call_soon_threadsafe(self._say, LATE_SAID)
-            return
-        except (InvalidMessage, Unsealed) as fault:
-            self._left_out += isinstance(fault, Unsealed)
+            run, body = self._seal.open(message.topic, message.payload)
+        except Unsealed as fault:
+            self._left_out += 1
             if not self._floods.count_message(UNSEALED):
                 self._loop.call_soon_threadsafe(self._say, f"A message from the broker was ignored: {fault}")
             return
-        if self._floods.count_message(self._sender(folder)):
+        is_known = hashlib.sha256(body).digest() in self._done
+        account = REPEATS if is_known else self._account_of(message.topic, run)
+        over = self._floods.count_message(account) if account in SENDERS else self._floods.is_ignored(account)
+        if over or is_known:
             return
-        done = asyncio.run_coroutine_threadsafe(self._receive(message.topic, folder, body), self._loop)
+        done = asyncio.run_coroutine_threadsafe(self._receive(message.topic, run, body), self._loop)
         try:
             done.result()
         except Exception:  # pylint: disable=broad-except
             logging.exception("a message from the broker could not be handled")
 
-    def _sender(self, folder: str) -> str:
-        """Return the sender as which a folder's messages are counted. All folders that were not heard before are one sender, since
-        anybody could invent many."""
-        is_known = folder == self._id or self._peers.has_heard(folder) or folder in self._floods.ignored_senders()
-        return folder if is_known else STRANGERS
+    def _account_of(self, topic: str, run: str) -> str:
+        """Return the sender as which a message is counted. All runs that were not heard before are one sender, since anybody could
+        invent many."""
+        if topic == SITES_TOPIC:
+            return ANNOUNCEMENTS
+        if topic.endswith("/sum"):
+            return REPEATS
+        return run if self._peers.has_heard(run) else STRANGERS
 
     def _is_connected(self, refusal: str | None) -> None:
         self._connected = refusal is None
@@ -196,7 +189,7 @@ class Sites:
     def _publish(self, topic: str, value: Mapping[str, object], quality: int) -> None:
         if not self._connected:
             return
-        fields: Mapping[str, object] = {"folder": self._id, **value}
+        fields: Mapping[str, object] = {"form": SITE_FORM, **value}
         payload = self._seal.seal(topic, to_json(fields).encode())
         length = HEADER + len(topic) + len(payload)
         if length > self._longest:
@@ -227,15 +220,15 @@ class Sites:
 
     def _send_part(self, part: list[Json], title: str) -> None:
         more = {"title": title} if title else {}
-        self._publish(f"road/{self._road}/operations", {"form": SITE_FORM, "operations": part, **more}, 1)
+        self._publish(f"road/{self._road}/operations", {"operations": part, **more}, 1)
 
     def _send_unreturned(self) -> None:
-        """Send the operations that the broker has not returned: new ones at once, others again after growing pauses. Send none while
-        another folder uses this site's number."""
-        if not self._connected or not self._peers.may_send():
+        """Send the operations that the broker has not returned, in the order of their stamps: new ones at once, others again after
+        growing pauses."""
+        if not self._connected:
             return
         now = time.monotonic()
-        due = [one for one in self._unreturned() if sum(self._sent.get(one, (0.0, 0.0))) <= now][:OPERATIONS_AT_ONCE]
+        due = [one for one in sort_by_stamp(self._unreturned()) if sum(self._sent.get(one, (0.0, 0.0))) <= now][:OPERATIONS_AT_ONCE]
         for one in due:
             _, pause = self._sent.get(one, (0.0, ANNOUNCE_EVERY / 2))
             self._sent[one] = now, min(LONGEST_RESEND_PAUSE, 2 * pause)
@@ -250,11 +243,8 @@ class Sites:
         self._send_unreturned()
 
     def _announce_site(self) -> None:
-        state = self._keeper.state
-        self._publish(SITES_TOPIC, {"run": self._run, "site": state.site, "road": self._road, "form": SITE_FORM,
-                              "time": int(1_000 * time.time()),
-                              "silent": self._peers.is_anothers(), "bound": {str(one): folder for one, folder in
-                                                                       self._peers.disputed().items()}}, 0)
+        self._publish(SITES_TOPIC, {"site": self._keeper.state.site, "host": self._host, "road": self._road,
+                                    "count": self._keeper.counter.greatest}, 0)
 
     async def _announce_forever(self) -> None:
         while True:
@@ -265,20 +255,14 @@ class Sites:
                 logging.warning("this site was not announced: %s", fault.why)
 
     async def announce(self) -> None:
-        """Announce this site and the hashes of its operations, send operations that the broker has not returned, and take early ones
-        whose day has come."""
+        """Announce this site and the hashes of its operations, and send operations that the broker has not returned."""
         self._announce_site()
         self._send_unreturned()
-        if self._early and (self._taking is None or self._taking.done()):
-            self._taking = asyncio.ensure_future(self._take_early())
-            await asyncio.wait([self._taking], timeout=ANNOUNCE_EVERY)  # the disk may never answer
         unsent = self._keeper.state.unsent
         self._sent = {one: when for one, when in self._sent.items() if one in unsent}
         self._may_answer = True
-        if self._peers.may_send():
-            sums = self._sum_up()
-            self._publish(f"road/{self._road}/sum", {"form": SITE_FORM, "sum": sums.total, "ranges": sums.ranges(),
-                                                     "timeline": await self._hash_road()}, 0)
+        sums = self._sum_up()
+        self._publish(f"road/{self._road}/sum", {"sum": sums.total, "ranges": sums.ranges(), "timeline": await self._hash_road()}, 0)
         self._tell()
 
     async def _hash_road(self) -> str:
@@ -301,63 +285,57 @@ class Sites:
 
     # What comes
 
-    async def _receive(self, topic: str, folder: str, body: bytes) -> None:
+    async def _receive(self, topic: str, run: str, body: bytes) -> None:
+        self._work, is_new, account = 0.0, False, self._account_of(topic, run)
         try:
-            value = self._read_message(folder, body) if len(body) < LARGE_MESSAGE else await asyncio.to_thread(
-                self._read_message, folder, body)
+            value = self._read_message(body) if len(body) < LARGE_MESSAGE else await asyncio.to_thread(self._read_message, body)
             if topic == SITES_TOPIC:
-                await self._receive_announcement(folder, value)
+                self._receive_announcement(run, value)
             elif topic.endswith("/sum"):
-                await self._receive_hash(folder, value)
+                await self._receive_hash(run, value)
             else:
-                await self._receive_operations(folder, value)
+                is_new = await self._receive_operations(value, hashlib.sha256(body).digest())
         except (InvalidMessage, Refused) as fault:
-            self._report_ignored(fault)
+            is_new = True
+            self._say(f"A message from the broker was ignored: {fault.why if isinstance(fault, Refused) else fault}")
+        is_counted, account = account in SENDERS, account if account in SENDERS or is_new else REPEATS
+        self._floods.add_work(account, self._work)
+        if not is_counted:
+            self._floods.count_message(account)
 
-    def _read_message(self, folder: str, body: bytes) -> Mapping[str, Json]:
+    def _read_message(self, body: bytes) -> Mapping[str, Json]:
         """Return the fields of a message. (For a large one, another thread calls this.)"""
         began = thread_time()
         try:
             return read_message(body)
         finally:
-            self._count_work(folder, thread_time() - began)
+            self._work += thread_time() - began
 
-    def _count_work(self, folder: str, seconds: float) -> None:
-        """Count the processor time that a message of another site took, whether it was taken or refused."""
-        if folder != self._id:
-            self._floods.add_work(self._sender(folder), seconds)
+    def _receive_announcement(self, run: str, value: Mapping[str, Json]) -> None:
+        site, host, road, count = site_of(value)
+        now = time.time()
+        if self._peers.receive_announcement(run, Site(site, host, road, form_of(value), now, now), count):
+            self._tell()
 
-    def _report_ignored(self, fault: InvalidMessage | Refused) -> None:
-        self._say(f"A message from the broker was ignored: {fault.why if isinstance(fault, Refused) else fault}")
-
-    async def _receive_announcement(self, folder: str, value: Mapping[str, Json]) -> None:
-        folder, run, number, road = site_of(folder, value)
-        site = Site(folder, number, road, value.get("silent") is True, form_of(value), time.time())
-        sent = value.get("time")
-        if type(sent) is int and 0 <= sent < 1 << 53:
-            self._peers.hear_clock(folder, sent / 1_000)
-        await self._peers.receive_announcement(run, site, value.get("bound"))
-
-    async def _receive_operations(self, folder: str, value: Mapping[str, Json]) -> None:
-        """Take the operations of a message. Report malformed ones, and let early ones wait; the others are taken all the same."""
-        if self._peers.twin() is not None:
-            raise InvalidMessage("another folder uses this site's number: start one of the two with another --site")
+    async def _receive_operations(self, value: Mapping[str, Json], known: bytes) -> bool:
+        """Take the operations of a message. Report malformed ones, and those with counts too far above the others; take the rest all the
+        same. Return whether the message brought anything that was not held."""
         operations = value.get("operations")
         if value.get("form") != SITE_FORM or not isinstance(operations, list):
             raise InvalidMessage(f"it has no list of operations, or is not of form {SITE_FORM}")
-        good = await self._read_operations(folder, operations)
+        good = await self._read_operations(operations)
+        near = self._leave_out_far(sort_by_stamp(good))
         title = clean_text(value.get("title") or "", LONGEST_NOTE)
-        latest = self._keeper.stamps.latest_count()
-        due = [one for one in good if one.stamp[0] <= latest]
-        for begin in range(0, len(due), OPERATIONS_AT_ONCE):
-            await self._take(folder, due[begin:begin + OPERATIONS_AT_ONCE], title)
-        early = [one for one in good if one.stamp[0] > latest]
-        for one in early:
-            self._keep_early(one)
-        if early:
-            raise FutureStamp(early[0])
+        is_new = len(good) < len(operations)
+        for begin in range(0, len(near), OPERATIONS_AT_ONCE):
+            is_new |= await self._take(near[begin:begin + OPERATIONS_AT_ONCE], title)
+        if len(near) == len(good):
+            self._done[known] = None
+            if len(self._done) > MOST_DONE:
+                del self._done[next(iter(self._done))]
+        return is_new
 
-    async def _read_operations(self, folder: str, written: Sequence[Json]) -> list[Operation]:
+    async def _read_operations(self, written: Sequence[Json]) -> list[Operation]:
         """Return the operations of a message that every site takes, and report the others in one sentence."""
         good, faults, began = list[Operation](), list[str](), thread_time()
         for one in written:
@@ -366,76 +344,65 @@ class Sites:
             except (Malformed, Refused) as fault:
                 faults.append(fault.why if isinstance(fault, Refused) else str(fault))
             if thread_time() > began + READ_FOR:
-                self._count_work(folder, thread_time() - began)
+                self._work += thread_time() - began
                 await asyncio.sleep(2 * READ_FOR)
                 began = thread_time()
-        self._count_work(folder, thread_time() - began)
+        self._work += thread_time() - began
         if faults:
             several = f"{len(faults)} operations of a message were ignored. The first: "
             self._say((several if faults[1:] else "An operation of a message was ignored: ") + faults[0])
         return good
 
-    def _keep_early(self, one: Operation) -> None:
-        """Let an early operation wait, once, however often it comes. If too many wait, drop the oldest; they will be sent again."""
-        self._early[hashlib.sha256(one.text().encode()).hexdigest()] = one
-        while len(self._early) > MOST_EARLY or sum(len(each.text()) for each in self._early.values()) > LONGEST_EARLY:
-            del self._early[next(iter(self._early))]
+    def _leave_out_far(self, some: Sequence[Operation]) -> list[Operation]:
+        """Return operations, given in the order of their stamps, without those whose counts are too far above the shared road. Their
+        sites send them again."""
+        near, greatest = list[Operation](), self._keeper.state.shared.greatest
+        for one in some:
+            if not is_far(one.stamp[0], greatest):
+                near.append(one)
+                greatest = max(greatest, one.stamp[0])
+        if len(near) < len(some):
+            self._say(f"{len(some) - len(near)} changes were left out, since their counts are far above all that are shared here: they are "
+                      "taken once those before them have come")
+        return near
 
-    async def _take(self, folder: str, operations: list[Operation], title: str) -> None:
+    async def _take(self, operations: list[Operation], title: str) -> bool:
+        """Take operations. Return whether any was new, or came back."""
         times: Times = {}
-        await self._lab.receive(operations, title, times)
-        self._count_work(folder, times.get("work", 0))
-        for one in operations:
-            self._report_twins(one)
+        is_new = await self._lab.receive(operations, title, times)
+        self._work += times.get("work", 0)
         unsent = self._keeper.state.unsent
         back = [one.stamp for one in map(self._keeper.state.intern, operations) if one in unsent]
         if back:
             await self._lab.acknowledge(back)
             self._tell()
+        return is_new or bool(back)
 
-    def _report_twins(self, one: Operation) -> None:
-        """Report operations with the same stamp. All of them are held, and all sites have the same road in spite of them."""
-        twins = self._keeper.state.of_stamp(one.stamp)
-        if len(twins) > 1:
-            people = sorted({f"{each.about.who}, {each.about.note}" if each.about.note else each.about.who for each in twins})
-            self._say(f"Two changes have the same stamp, {list(one.stamp)}, probably from a copied folder: of {' and of '.join(people)}")
-
-    async def _take_early(self) -> None:
-        """Take the early operations whose day has come."""
-        latest = self._keeper.stamps.latest_count()
-        due = {key: one for key, one in self._early.items() if one.stamp[0] <= latest}
-        self._early = {key: one for key, one in self._early.items() if key not in due}
-        try:
-            if due:
-                await self._take(self._id, list(due.values()), "")
-        except (InvalidMessage, Refused) as fault:
-            self._report_ignored(fault)
-
-    async def _receive_hash(self, folder: str, value: Mapping[str, Json]) -> None:
-        folder, theirs, ranges = sum_of(folder, value)
-        if not self._peers.is_connected(folder) or not self._peers.may_send() or form_of(value) != SITE_FORM:
+    async def _receive_hash(self, run: str, value: Mapping[str, Json]) -> None:
+        theirs, ranges = sum_of(value)
+        if not self._peers.is_connected(run) or form_of(value) != SITE_FORM:
             return
         ours = self._sum_up().total
         pair_now = theirs, ours
-        before = self._sums.pop(folder, None)
-        self._sums[folder] = pair_now
+        before = self._sums.pop(run, None)
+        self._sums[run] = pair_now
         drop_oldest(self._sums)
         if theirs == ours:
-            self._pauses.pop(folder, None)
+            self._pauses.pop(run, None)
             if value.get("timeline") != await self._hash_road() and self._sum_up().total == ours:
-                self._say(f"{self._peers.describe_site(folder)} has the same changes but computes a different road from them: its server "
+                self._say(f"{self._peers.describe_site(run)} has the same changes but computes a different road from them: its server "
                           f"has a different version. Update the older of the two")
-        elif self._may_answer and (before == pair_now or folder in self._pauses and self._pauses[folder].place):
-            self._send_missing(folder, ranges, ours)
+        elif self._may_answer and (before == pair_now or run in self._pauses and self._pauses[run].place):
+            self._send_missing(run, ranges, ours)
 
-    def _send_missing(self, folder: str, ranges: Sequence[tuple[Bound, str]], held: str) -> None:
-        """Send a folder a piece of the operations of the ranges in which it holds others. Nobody gets another piece until this site's next
+    def _send_missing(self, run: str, ranges: Sequence[tuple[Bound, str]], held: str) -> None:
+        """Send a run a piece of the operations of the ranges in which it holds others. Nobody gets another piece until this site's next
         announcement. After the last piece, begin again after a pause, which grows each time."""
         now = time.monotonic()
-        last = self._pauses.pop(folder, Pause(0.0, 0.0, 0, held))
+        last = self._pauses.pop(run, Pause(0.0, 0.0, 0, held))
         place, pause = last.place, last.long if last.held == held else min(last.long, ANNOUNCE_EVERY)
         if not place and now < last.told + pause:
-            self._pauses[folder] = last
+            self._pauses[run] = last
             return
         other = self._sum_up().differing(ranges)
         lacking = sorted((one for one in self._keeper.state.shared.operations(0, self._keeper.confirmed)
@@ -445,6 +412,6 @@ class Sites:
                      min(place + OPERATIONS_AT_ONCE, len(lacking)), len(lacking))
         self._send(lacking[place:place + OPERATIONS_AT_ONCE])
         has_more = place + OPERATIONS_AT_ONCE < len(lacking)
-        self._pauses[folder] = (Pause(now, pause, place + OPERATIONS_AT_ONCE, held) if has_more
+        self._pauses[run] = (Pause(now, pause, place + OPERATIONS_AT_ONCE, held) if has_more
                                 else Pause(now, min(LONGEST_RESEND_PAUSE, max(ANNOUNCE_EVERY, 2 * pause)), 0, held))
         drop_oldest(self._pauses)

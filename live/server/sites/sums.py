@@ -6,6 +6,7 @@
 """
 from __future__ import annotations
 
+import base64
 import hashlib
 import itertools
 from bisect import bisect_left
@@ -22,14 +23,14 @@ Bound = Stamp | None
 
 
 class Sums:
-    """The operations of a site in the order of their stamps, and their hashes added up."""
+    """The operations of a site in the order of their stamps, and the hashes in their names added up."""
 
     def __init__(self) -> None:
         self._stamps: list[Stamp] = []
         self._upto = [0]  # by number of operations: the sum of the hashes of the oldest ones
 
     def add(self, operations: Iterable[Operation]) -> None:
-        fresh = sorted((one.stamp, hash_of_operation(one)) for one in operations)
+        fresh = sorted((one.stamp, first_bits(one.stamp)) for one in operations)
         if fresh and self._stamps and fresh[0][0] < self._stamps[-1]:
             hashes = (after - before for before, after in itertools.pairwise(self._upto))
             fresh = sorted([*zip(self._stamps, hashes), *fresh])
@@ -50,7 +51,7 @@ class Sums:
         return self.hash_between(None, None)
 
     def ranges(self) -> list[tuple[Bound, str]]:
-        cuts: list[Bound] = [*dict.fromkeys(self._stamps[MOST_IN_RANGE::MOST_IN_RANGE][1 - MOST_RANGES:])]
+        cuts: list[Bound] = [*self._stamps[MOST_IN_RANGE::MOST_IN_RANGE][1 - MOST_RANGES:]]
         return [(begin, self.hash_between(begin, end)) for begin, end in bounds_of([None, *cuts])]
 
     def differing(self, ranges: Sequence[tuple[Bound, str]]) -> list[tuple[Bound, Bound]]:
@@ -68,8 +69,9 @@ def is_between(stamp: Stamp, begin: Bound, end: Bound) -> bool:
     return (begin is None or begin <= stamp) and (end is None or stamp < end)
 
 
-def hash_of_operation(one: Operation) -> int:
-    return int(hashlib.sha256(one.text().encode()).hexdigest()[:16], 16)
+def first_bits(stamp: Stamp) -> int:
+    """Return the first 64 bits of the hash in a stamp."""
+    return int.from_bytes(base64.urlsafe_b64decode(stamp[1] + "==")[:8], "big")
 
 
 def hash_of_edits(edits: Edits) -> str:

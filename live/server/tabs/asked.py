@@ -8,34 +8,41 @@ from __future__ import annotations
 
 import unicodedata
 from itertools import islice
-from typing import Iterable, Iterator, Mapping, cast
+from typing import Iterator, Mapping, cast
 
-from zegdrut.program.grammar import GREATEST, Part, kind, list_of, put, row_of, shown, value_of, whole
+from zegdrut.program.grammar import GREATEST, Part, kind, list_of, row_of, shown, value_of, whole
 
 from ..journal.journal import to_json
 from ..model.demands import INFLOW, MOST_DEMAND
-from ..model.operations import Json, Shape, Stamp, intern_int
-from ..model.reading import clean_text
-from .refusals import NOT_A_COMMAND, Refused, not_a_command
+from ..model.operations import CAPACITY, Capacity, Json, Shape, Stamp, intern_int
+from ..model.reading import Malformed, clean_text, read_site, read_stamp
+from .refusals import Refused, not_a_command
 
-MOST_EDITS = 1_200  # raw edits of a gesture; the program gets them as one import
 LONGEST_KEY = 40  # characters
 MOST_FAULTS_NAMED = 3  # faults of a list that a refusal names
 LONG_FIELD = 2_000  # bytes of a field; in a longer one a refusal does not show numbers as they were written, since that takes long
-
-
-RawEdit = tuple[str, int, int, "int | None"]
-"""Kind, index, step, and value; the value None withdraws the edit."""
 
 
 def whole_or_none(value: object) -> Iterator[str]:
     return iter(()) if value is None else whole(value)
 
 
-EDITS = list_of(row_of(("kind", kind), ("index", whole), ("step", whole), ("value", put)), "edit")
-SHAPE = row_of(("kind", kind), ("first index", whole), ("last index", whole), ("from", whole),
-               ("to", whole_or_none), ("value", whole))
-STAMP = row_of(("count", lambda value: whole(value, 1 << 48)), ("number", lambda value: whole(value, 65_535)))
+def capacity_kind(value: object) -> Iterator[str]:
+    return iter(() if value == CAPACITY else (f"{shown(value)} is not {CAPACITY}",))
+
+
+def stamp(value: object) -> Iterator[str]:
+    """Yield what is wrong with a stamp."""
+    try:
+        read_stamp(cast(Json, value))
+    except Malformed as fault:
+        yield str(fault)
+
+
+PLACES = ("first index", whole), ("last index", whole), ("from", whole), ("to", whole_or_none)
+SHAPE = row_of(("kind", kind), *PLACES, ("value", whole))
+CAPACITY_SHAPE = row_of(("kind", capacity_kind), *PLACES, ("value", row_of(
+    ("cars per hour", whole), ("limit", whole), ("slowing chance", whole), ("slow-to-start chance", whole))))
 PAIR = row_of(("index", whole), ("chance", whole))
 
 
@@ -145,39 +152,31 @@ class CommandFields:
         """Return a stamp, or the key of a gesture whose stamp the tab may not know yet."""
         if type(self.require(name)) is str:
             return self.key(name)
-        return self._pair(name, STAMP)
+        return read_stamp(self._checked(name, stamp))
 
     def stamps(self) -> set[Stamp] | None:
-        return set(self._pairs("stamps", list_of(STAMP, "stamp"))) if self.has("stamps") else None
+        if not self.has("stamps"):
+            return None
+        return {read_stamp(one) for one in cast("list[Json]", self._checked("stamps", list_of(stamp, "stamp")))}
 
-    def _pair(self, name: str, faults: Part) -> tuple[int, int]:
-        """Return a field of two whole numbers; `faults` checks the list."""
-        one, other = cast("list[int]", self._checked(name, faults))
-        return one, other
-
-    def _pairs(self, name: str, faults: Part) -> Iterable[tuple[int, int]]:
-        """Return a field of pairs of whole numbers; `faults` checks the list."""
-        return ((one, other) for one, other in cast("list[list[int]]", self._checked(name, faults)))
+    def site(self) -> str:
+        """Return the name of a site."""
+        try:
+            return read_site(self.require("site"))
+        except Malformed as fault:
+            raise not_a_command(f"`site`: {fault}") from None
 
     def pairs(self, name: str) -> list[tuple[int, int]]:
         """Return a field that is a list of pairs of whole numbers."""
-        return list(self._pairs(name, list_of(PAIR, "pair")))
-
-    def edits(self) -> list[RawEdit]:
-        edits = self.require("edits")
-        if not isinstance(edits, list) or 1 <= len(edits) <= MOST_EDITS:
-            edits = cast("list[Json]", self._checked("edits", EDITS))
-        if not 1 <= len(edits) <= MOST_EDITS:
-            raise Refused("TooManyEdits" if edits else NOT_A_COMMAND,
-                          f"a gesture must have 1 to {MOST_EDITS} edits, not {len(edits)}")
-        found = [(kind_of, index, step, value) for kind_of, index, step, value in cast("list[RawEdit]", edits)]
-        if len({edit[:3] for edit in found}) < len(edits):
-            raise not_a_command("`edits` has two edits of one object at one step: leave one out")
-        return found
+        return [(one, other) for one, other in cast("list[list[int]]", self._checked(name, list_of(PAIR, "pair")))]
 
     def shape(self) -> Shape:
-        kind_of, first, last, begin, end, value = cast("tuple[str, int, int, int, int | None, int]", self._checked("shape", SHAPE))
-        return Shape(kind_of, intern_int(first), intern_int(last), intern_int(begin), None if end is None else intern_int(end), value)
+        named = self.require("shape")
+        is_capacity = isinstance(named, list) and named[:1] == [CAPACITY]
+        kind_of, first, last, begin, end, value = cast("tuple[str, int, int, int, int | None, int | list[int]]", self._checked(
+            "shape", CAPACITY_SHAPE if is_capacity else SHAPE))
+        return Shape(kind_of, intern_int(first), intern_int(last), intern_int(begin), None if end is None else intern_int(end),
+                     cast(Capacity, tuple(value)) if isinstance(value, list) else value)
 
     def is_null(self, name: str) -> bool:
         return self.has(name) and self._fields[name] is None
@@ -192,7 +191,8 @@ class CommandFields:
         """Return the first and the last cell of `cells`; None if the field is missing, which means all cells."""
         if not self.has("cells"):
             return None
-        return self._pair("cells", row_of(("first cell", whole), ("last cell", whole)))
+        first, last = cast("list[int]", self._checked("cells", row_of(("first cell", whole), ("last cell", whole))))
+        return first, last
 
     def remaining(self) -> Mapping[str, Json]:
         """Return the fields that were not read so far, which then count as read."""

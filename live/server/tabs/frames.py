@@ -5,8 +5,7 @@ from typing import Mapping, Sequence, TypedDict
 
 from zegdrut.program.wire import PlanLine, WrittenEdit
 
-from ..figures.days import FigureTold
-from ..figures.figures import DetectorFigures, RoadFigures, MeanTimes
+from ..figures.figures import DetectorFigures, Head, Row, TwoTimes
 from ..model.operations import Json, Shape, Stamp
 from ..sites.peers import BrokerState
 from .lines import Act, Line
@@ -15,19 +14,18 @@ from .seating import ListedSeat
 Day = TypedDict("Day", {"begin": "int | None", "date": "str | None", "zone": "str | None"})
 """The time of day at step 0 in seconds after midnight, the date and the time zone; null if the road's file does not have them."""
 Welcome = TypedDict("Welcome", {
-    "at": str, "seat": int, "name": str, "key": str, "number": int, "form": int, "site": int, "plan": PlanLine, "horizon": int,
+    "at": str, "seat": int, "name": str, "key": str, "form": int, "site": str, "plan": PlanLine, "horizon": int,
     "rate": float, "now": int, "stop": int, "ahead": int, "time": float, "most": Mapping[str, int], "broker": "BrokerState | None",
-    "trouble": "str | None", "standing": "str | None", "day": Day, "demand_end": "int | None", "road": str}, total=False)
-BoundSite = TypedDict("BoundSite", {"site": int, "folder": str})
-"""A site's number, and the folder that it is bound to."""
+    "trouble": "str | None", "standing": "str | None", "day": Day, "demand_end": "int | None", "road": str,
+    "figures": Sequence[Head]}, total=False)
 Blocked = TypedDict("Blocked", {"stamp": Stamp, "by": Sequence[str]})
 """An operation of the seat that undo skips, and the names of those who changed its line since."""
 NewsFrame = TypedDict("NewsFrame", {
     "size": int, "from": Sequence[str], "shares": Sequence[Mapping[str, Json]], "changes": Sequence[Act], "touched": "int | None"})
 """What others shared and the seat has not taken, and the first step that changes."""
 Held = TypedDict("Held", {
-    "stamp": Stamp, "sets": Sequence[Sequence[Json]], "heights": Sequence[Sequence[Json]], "undoes": Stamp, "excludes": Sequence[Json],
-    "seen": Stamp, "who": str, "note": str, "when": float, "shape": Shape, "shared": bool}, total=False)
+    "stamp": Stamp, "site": str, "layer": Stamp, "shape": Shape, "top": bool, "undoes": Stamp, "excludes": Sequence[Json], "seen": Stamp,
+    "who": str, "note": str, "when": int, "shared": bool, "seat": int}, total=False)
 """An operation that a replica holds."""
 Frame = TypedDict("Frame", {
     "id": int, "us": Mapping[str, int], "refused": str, "why": str, "seats": Sequence[ListedSeat], "welcome": Welcome,
@@ -35,8 +33,7 @@ Frame = TypedDict("Frame", {
     "undo": "Stamp | None", "redo": "Stamp | None", "blocked": Sequence[Blocked], "size": int, "stamps": Sequence[Stamp],
     "changes": Sequence[Act], "operations": Sequence[Held], "horizon": int, "cells": str, "rows": Sequence[str],
     "cars": Json, "speeds": int, "edits": Sequence[WrittenEdit], "sums": Sequence[int], "flows": Sequence[DetectorFigures],
-    "counts": Json, "from": int, "to": int, "before": RoadFigures, "after": RoadFigures, "delay_hours": float,
-    "delayed": int, "later": MeanTimes, "days": int, "stopped": bool, "figures": Sequence[FigureTold], "lines": str, "html": str, "csv": str,
-    "own": int, "numbers": Sequence[BoundSite], "points": Sequence["tuple[int, float]"], "capacity": float, "now": int,
+    "counts": Json, "from": int, "to": int, "figures": Sequence[Row], "entries": TwoTimes, "days": int, "stopped": bool, "lines": str,
+    "html": str, "csv": str, "points": Sequence["tuple[int, float]"], "capacity": float, "now": int,
     "news": NewsFrame, "pong": Json, "broker": BrokerState, "trouble": "str | None", "program": Mapping[str, int]}, total=False)
 """The fields of all replies and news. Each frame has some of them."""

@@ -229,7 +229,7 @@ class Questions:
     async def operations(self, index: int, replica: Replica, first: int) -> Reply:
         """Return a part of the operations of a replica in order of arrival, from the place `first` on."""
         async def body() -> Reply:
-            shared, texts, size = self._keeper.state.shared.places, list[str](), 0
+            state, texts, size = self._keeper.state, list[str](), 0
             after, more, began = replica.size, False, time.perf_counter()
             for one, place in [*replica.places.items()]:
                 if place < first or isinstance(one, Unreadable):
@@ -240,7 +240,9 @@ class Questions:
                 if size > PIECE_OF_LIST:
                     after, more = place, True
                     break
-                written: Fields = {**one.written(), "shared": one in shared}
+                written: dict[str, object] = {**one.written(), "shared": one in state.shared.places}
+                if one in state.makers:
+                    written["seat"] = state.makers[one]
                 texts.append(to_json(written))
                 size += len(texts[-1])
             return f'{{"operations":[{",".join(texts)}],"next":{after},"more":{to_json(more)}}}'.encode()
@@ -339,7 +341,7 @@ class Questions:
         plan = state.plan.copy()
         plan["replicas"] = ["road"]
         return {"plan": plan, "first": first, "last": last, "program": self._keeper.path, "before": edits["before"],
-                "after": edits["after"], "demands": demands}
+                "after": edits["after"], "demands": demands, "names": ["before", "after"] if of == "preview" else ["shared", "mine"]}
 
     def _demands(self, before: Road, after: Road) -> TwoDemands:
         """Return the demands that were asked for on two roads."""
@@ -382,9 +384,9 @@ class Questions:
         """Return the report on two roads: of the preview if `of` is "preview", else of the shared road and the seat's own."""
         roads = await self._find_both_roads(index, own, of, first, last)
         day, seat = clock_of(self._keeper.folder), self._keeper.state.seats[index]
-        names = ["before", "after"] if of == "preview" else ["shared", seat.name or seat.at]
+        roads["names"] = ["before", "after"] if of == "preview" else ["shared", seat.name or seat.at]
         clock = () if day is None else (day.to_text(0), *(None if one is None else str(one) for one in (day.date, day.zone)))
-        made = await report.make_report(index, {"roads": roads, "title": title, "works": works, "names": names, "clock": clock,
+        made = await report.make_report(index, {"roads": roads, "title": title, "works": works, "clock": clock,
                                                 "days": report.DAYS})
         return {"from": first, "to": last, **made}
 

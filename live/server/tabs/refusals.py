@@ -17,7 +17,6 @@ MEANINGS = {
     "NoProgram": "The program crashed on this twice; the server's log says why",
     "NoSuchChange": "The seat holds no change with this stamp or key",
     "NoSuchSeat": "Nobody has this seat",
-    "NotBound": "No other folder has this site's number, so there is nothing to revoke",
     "NothingToPut": "An undo cannot be repeated: change the line itself",
     "NothingToUndo": "The undo of this operation would change nothing",
     "NotWritten": "The change was not saved, so it was not made: try again later",
@@ -31,8 +30,7 @@ MEANINGS = {
     "Stopped": "The request was stopped before the first day was simulated",
     "TooFarAhead": "A replica runs at most 36,000 steps ahead of the clock",
     "TooLong": "The figures or the report took more than 600 seconds: choose a shorter period",
-    "TooManyEdits": "A gesture can have at most 1,200 raw edits",
-    "TooManyObjects": "The shapes of one operation can cover at most 600 objects",
+    "TooManyObjects": "A shape can cover at most 600 objects",
     "UnknownKey": "The seat of this key was taken over or freed: choose a seat",
 }
 OF_THE_FORMAT = frozenset({

@@ -21,6 +21,7 @@ from aiohttp import WSMsgType, web
 from zegdrut.program.programs import describe_standing
 
 from ..background.supervised import supervise
+from ..figures.figures import list_heads
 from ..journal.journal import to_json
 from ..journal.lab import Lab
 from ..journal.state import TAB_FORM
@@ -30,7 +31,7 @@ from ..model.reading import LONGEST_NAME
 from ..roads import plans
 from ..roads.program import Times
 from . import verbs
-from .asked import MOST_EDITS, CommandFields
+from .asked import CommandFields
 from .questions import MOST_BYTES, MOST_ROWS, Questions, Reply
 from .refusals import Refused, not_a_command
 from .seating import ListedSeat
@@ -273,14 +274,13 @@ class Tabs:
         state = self.lab.keeper.state
         seat = state.seats[index]
         plan: Mapping[str, object] = {**state.plan, "replicas": []}
-        return {"at": seat.at, "seat": index, "name": seat.name, "key": key, "number": seat.number,
-                "form": TAB_FORM, "site": state.site, "plan": plan,
+        return {"at": seat.at, "seat": index, "name": seat.name, "key": key, "form": TAB_FORM, "site": state.site, "plan": plan,
                 "horizon": self.lab.keeper.target_steps.get(index, 0), **self.lab.keeper.clock().fields(), "ahead": STEPS_AHEAD,
                 "time": round(time.time(), 3),
-                "most": {"edits": MOST_EDITS, "rows": MOST_ROWS, "bytes": MOST_BYTES,
+                "most": {"rows": MOST_ROWS, "bytes": MOST_BYTES,
                          "days": self.lab.keeper.settings.days}, "broker": self._broker(),
                 "trouble": self._trouble, "standing": self._standing, "day": self._day(), "demand_end": plans.find_profile_end(self.lab.keeper.folder),
-                "road": plans.name_of(self.lab.keeper.folder)}
+                "road": plans.name_of(self.lab.keeper.folder), "figures": list_heads(state.plan)}
 
     def _day(self) -> Mapping[str, int | str | None]:
         """Return the time of day at step 0 in seconds after midnight, the date and the time zone, as far as they are known."""

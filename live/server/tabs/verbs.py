@@ -2,7 +2,6 @@
 reader returns a function that answers the command."""
 from __future__ import annotations
 
-import secrets
 from dataclasses import dataclass
 from typing import Awaitable, Callable, TypeVar
 
@@ -15,8 +14,7 @@ from ..journal.timing import FASTEST
 from ..model.reading import LONGEST_NOTE
 from ..roads.program import Times
 from ..roads.roads import SIDES, AskedRoad
-from ..sites import peers
-from .asked import CommandFields, RawEdit
+from .asked import CommandFields
 from .questions import Questions, Reply
 from .refusals import Refused, not_a_command
 
@@ -128,10 +126,6 @@ def read_comparison(asked: CommandFields) -> tuple[str, int, int]:
     return (of, *read_steps(asked))
 
 
-def read_site(asked: CommandFields) -> int:
-    return asked.whole("site", 1, 1_023)
-
-
 def require_shared(asked: CommandFields, field: str) -> None:
     if asked.require(field) != "shared":
         raise Refused("not a command", f"`{field}` must be \"shared\" here")
@@ -147,16 +141,6 @@ def clock(asked: CommandFields) -> Handler:
     rate = asked.number("rate", FASTEST) if asked.has("rate") else None
     to = asked.whole("to") if rate is None else None
     return lambda call: call.lab.timing.set_clock(rate, to)
-
-
-async def list_numbers(call: Call) -> Reply:
-    return {"own": call.lab.state.site, "numbers": [{"site": number, "folder": folder} for number, folder in
-                                                    sorted(peers.bindings(call.lab.state).items())]}
-
-
-async def unbind(call: Call, site: int) -> Reply:
-    await peers.revoke(call.lab, site)
-    return {}
 
 
 def admission(asked: CommandFields) -> Handler:
@@ -180,12 +164,8 @@ def admission(asked: CommandFields) -> Handler:
 # Commands that change, share or take
 
 def gesture(asked: CommandFields) -> Handler:
-    """Read a gesture: raw edits, a new shape, or a new shape or height for a line."""
+    """Read a gesture: a new shape, or a new shape or height for a line."""
     key, note = read_key_and_note(asked)
-    if asked.has("edits"):
-        drawn = None if not asked.has("shape") or asked.is_null("shape") else asked.shape()
-        edits = asked.edits()
-        return lambda call: call.lab.put_edits(call.index, call.times, key=key, note=note, edits=edits, shape=drawn)
     if not asked.has("layer"):
         new = asked.shape()
         demand = asked.demand(new)
@@ -198,22 +178,6 @@ def gesture(asked: CommandFields) -> Handler:
     shape = None if asked.is_null("shape") else asked.shape()
     said = None if shape is None else asked.demand(shape)
     return lambda call: call.lab.change_line(call.index, call.times, key=key, note=note, line=line, shape=shape, top=top, demand=said)
-
-
-def read_edit(asked: CommandFields) -> list[RawEdit]:
-    """Read the commands `edit` and `withdraw` of docs/FORMAT.md as a raw edit."""
-    thing = asked.require("object")
-    edit = [*(thing if isinstance(thing, list) else [thing]), asked.require("step"),
-            asked.require("value") if asked.verb == "edit" else None]
-    edits = CommandFields("gesture", {"edits": [edit]}).edits()
-    if asked.verb == "edit" and edit[-1] is None:
-        raise Refused("not a command", "`value` is null: use `withdraw` to take an edit back")
-    return edits
-
-
-async def put_edits(call: Call, edits: list[RawEdit]) -> Reply:
-    said = await call.lab.put_edits(call.index, call.times, key=secrets.token_hex(8), note="", edits=edits)
-    return {"stamp": said["stamp"]}
 
 
 def undo(asked: CommandFields) -> Handler:
@@ -229,7 +193,7 @@ def put_again(asked: CommandFields) -> Handler:
 
 def exclude_site(asked: CommandFields) -> Handler:
     key, note = read_key_and_note(asked)
-    site, is_out = read_site(asked), asked.flag("out")
+    site, is_out = asked.site(), asked.flag("out")
     return lambda call: call.lab.exclude_site(call.index, call.times, key=key, note=note, site=site, out=is_out)
 
 
@@ -309,13 +273,9 @@ VERBS: dict[str, Verb] = {
     # Commands without a road
     "seats": Verb(NO_ROAD, no_fields(seats)),
     "clock": Verb(NO_ROAD, clock, changes=True),
-    "numbers": Verb(NO_ROAD, no_fields(list_numbers)),
-    "unbind": Verb(NO_ROAD, reader_of_one_part(read_site, unbind), changes=True),
     "admission": Verb(NO_ROAD, admission),
     # Commands that change, share or take
     "gesture": Verb(OWN, gesture, changes=True),
-    "edit": Verb(OWN, reader_of_one_part(read_edit, put_edits), changes=True),
-    "withdraw": Verb(OWN, reader_of_one_part(read_edit, put_edits), changes=True),
     "undo": Verb(OWN, undo, changes=True),
     "again": Verb(OWN, put_again, changes=True),
     "site": Verb(OWN, exclude_site, changes=True),
