@@ -86,6 +86,17 @@ def default_folder() -> Path:
         raise Problem("You have no home directory to keep the road in. Name a folder with --folder.") from None
 
 
+def find_folder_beside(serve: ModuleType, folder: Path) -> Path:
+    """Return a folder, or another one beside it if its journal has a former form, and say so."""
+    form = serve.form_of(folder)
+    if form in (None, serve.JOURNAL_FORM):
+        return folder
+    beside = folder.with_name(f"{folder.name}-{serve.JOURNAL_FORM}")
+    print(f"The road in {folder} was kept by another version of live, so it stays as it is: using {beside}. To go on with that road, stop, "
+          f"remove {beside}, and type: live/import_former {folder} {beside}", file=sys.stderr, flush=True)
+    return beside
+
+
 def check_writable(folder: Path, advice: str) -> None:
     """Raise Problem, with the advice, if this user cannot write to a folder or create it."""
     why = find_unwritable(folder)
@@ -107,7 +118,8 @@ def check_unserved(serve: ModuleType, folder: Path) -> None:
 
 def serve_options(options: argparse.Namespace, others: list[str]) -> list[str]:
     """Return the options with which to run live/serve. End the process with a message if one of them is wrong."""
-    serve, folder = load_serve(), options.folder or default_folder()
+    serve = load_serve()
+    folder = options.folder or find_folder_beside(serve, default_folder())
     port = options.port or str(serve.PORT)
     given = serve.read_options(["--folder", str(folder), "--port", port, *others])
     check_writable(given.folder, "Name another folder with --folder.")
