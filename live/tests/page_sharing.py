@@ -82,7 +82,7 @@ class Sharing(BrowserCase):
 
     def test_news_is_visible_next_to_long_figures(self) -> None:
         ada, ben = self.open(FREEWAY)
-        height = 560
+        height = 480
         ben.driver.execute_cdp_cmd("Emulation.setDeviceMetricsOverride",
                                    {"width": 1366, "height": height, "deviceScaleFactor": 1, "mobile": False})
         self.addCleanup(ben.driver.execute_cdp_cmd, "Emulation.clearDeviceMetricsOverride", {})
