@@ -1,8 +1,8 @@
 // Actions: choose the road and the part of it that the diagram shows; move and zoom; run the clock.
 
-import {ask} from "./asking.mjs";
+import {ask} from "./questions.mjs";
 import {assign} from "./assign.mjs";
-import {fetchRows} from "./fetching.mjs";
+import {fetchRows} from "./loader.mjs";
 import {cellsOf} from "./geometry.mjs";
 import * as messages from "./messages.mjs";
 import {notify, need, last, now, store, tell} from "./store.mjs";
@@ -188,14 +188,14 @@ export function lookAhead() {
     tell(messages.farthestAhead(ahead / HOUR), true);
     return;
   }
-  store.ahead = Math.min(most, last() + AHEAD);
+  store.forecastEnd = Math.min(most, last() + AHEAD);
   notify("clock");
   refreshDiagram();
 }
 
 /** Show the own road only up to the clock. */
 export function backToClock() {
-  store.ahead = 0;
+  store.forecastEnd = 0;
   notify("clock");
   refreshDiagram();
 }

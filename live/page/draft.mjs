@@ -1,12 +1,12 @@
 // Actions: the tool, the rectangle that is drawn, the cursor, and the form for typed values.
 
-import {put, refreshLists} from "./acting.mjs";
+import {put, refreshLists} from "./gestures.mjs";
 import {areaOfShape, isUnmeasured} from "./area.mjs";
 import {assign} from "./assign.mjs";
 import {curveSoon} from "./demand.mjs";
 import {fieldsOf, readForm, takenText} from "./formvalues.mjs";
 import {clamp, sameShape} from "./geometry.mjs";
-import {moveBy} from "./looking.mjs";
+import {moveBy} from "./navigation.mjs";
 import * as messages from "./messages.mjs";
 import {layersOf, need, notify, store, tell} from "./store.mjs";
 import {LAST_STEP, chanceOfDemand} from "./units.mjs";

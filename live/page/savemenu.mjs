@@ -2,15 +2,15 @@
 // again, and tables for a spreadsheet.
 
 import {EMPTY, drawLegend, pen} from "../../viewer/drawing.mjs";
-import {ask, askUntilFree} from "./asking.mjs";
-import {comparedNow, daysShown} from "./days.mjs";
+import {ask, askUntilFree} from "./questions.mjs";
+import {comparedNow, daysShown} from "./comparison.mjs";
 import {measureDemands} from "./demand.mjs";
-import {withoutCursor} from "./drafting.mjs";
+import {withoutCursor} from "./draft.mjs";
 import {$, activeIn, closest, download, on} from "./elements.mjs";
-import {Words, newestFirst} from "./listing.mjs";
+import {Words, newestFirst} from "./changetexts.mjs";
 import * as messages from "./messages.mjs";
 import {drawDiagram, legendEntries} from "./picture.mjs";
-import {claimFileName} from "./saving.mjs";
+import {claimFileName} from "./filenames.mjs";
 import {need, layersOf, now, store, tell} from "./store.mjs";
 import {csvOf, tableOfChanges, tableOfFigures, tableOfTravel} from "./tables.mjs";
 import {METRES_A_CELL, kmText, plural} from "./units.mjs";

@@ -1,6 +1,6 @@
 // Actions: ask for the rows, counts and sums that are missing.
 
-import {ask} from "./asking.mjs";
+import {ask} from "./questions.mjs";
 import {assign} from "./assign.mjs";
 import {keyOf} from "./stamps.mjs";
 import {BOTH, notify, need, last, roadOf, store, whoseShown} from "./store.mjs";

@@ -1,19 +1,19 @@
 // Actions: the connection to the server, who this tab is, and the server's messages.
 
 import {assign} from "./assign.mjs";
-import {refreshDiagram} from "./looking.mjs";
-import {askPreview, restorePending, persistPending, refreshChanges, send} from "./acting.mjs";
+import {refreshDiagram} from "./navigation.mjs";
+import {askPreview, restorePending, persistPending, refreshChanges, send} from "./gestures.mjs";
 import {untaken} from "./changes.mjs";
-import {hearDays} from "./days.mjs";
+import {hearDays} from "./comparison.mjs";
 import {curveAt} from "./demand.mjs";
 import {Connection, TAKEN_OVER} from "./connection.mjs";
 import {DayClock} from "./dayclock.mjs";
-import {loadSeats, remember, remembered, storeSeat} from "./kept.mjs";
+import {loadSeats, remember, remembered, storeSeat} from "./storage.mjs";
 import {Layers} from "./layers.mjs";
 import * as messages from "./messages.mjs";
 import {Road} from "./rows.mjs";
 import {BOTH, notify, need, layersOf, roadOf, store, tell} from "./store.mjs";
-import {titlesOf} from "./listing.mjs";
+import {titlesOf} from "./changetexts.mjs";
 
 /** @typedef {import("./types.mjs").Broker} Broker */
 /** @typedef {import("./types.mjs").News} News */

@@ -1,15 +1,15 @@
 // Actions: put, change and undo shapes; share, take and preview changes.
 
-import {ask} from "./asking.mjs";
+import {ask} from "./questions.mjs";
 import {assign} from "./assign.mjs";
 import {makers, next, unshared, untaken, words} from "./changes.mjs";
-import {daysShown, dropDays} from "./days.mjs";
+import {daysShown, dropDays} from "./comparison.mjs";
 import {encodeShape, encodeStamp} from "./decoding.mjs";
-import {loadPending, storePending} from "./kept.mjs";
+import {loadPending, storePending} from "./storage.mjs";
 import {isCovered, privateOf} from "./layers.mjs";
-import {askSeries} from "./fetching.mjs";
-import {listChanges} from "./listing.mjs";
-import {refreshDiagram} from "./looking.mjs";
+import {askSeries} from "./loader.mjs";
+import {listChanges} from "./changetexts.mjs";
+import {refreshDiagram} from "./navigation.mjs";
 import * as messages from "./messages.mjs";
 import {Road} from "./rows.mjs";
 import {keyOf} from "./stamps.mjs";
@@ -41,7 +41,7 @@ export function put({shape, note, taken = "", old}) {
   const first = Math.min(shape.from, old?.shape?.from ?? shape.from);
   const layer = old ? {layer: encodeStamp(old.name)} : {};
   const demand = shape.demand === undefined ? {} : {demand: shape.demand};
-  act({gesture: {note, shape: encodeShape(shape), ...demand, ...layer}}, {note, shape, taken, first});
+  makeGesture({gesture: {note, shape: encodeShape(shape), ...demand, ...layer}}, {note, shape, taken, first});
 }
 
 /** @type {(what: string, change: Change) => string} */
@@ -57,7 +57,7 @@ export function withdraw(change) {
   }
   const note = noted("Withdrew", change);
   const gesture = {note, layer: encodeStamp(change.name), shape: null};
-  act({gesture}, {note, first: change.shape?.from});
+  makeGesture({gesture}, {note, first: change.shape?.from});
 }
 
 /** Put a change on top of all others.
@@ -66,7 +66,7 @@ export function withdraw(change) {
 export function putOnTop(change) {
   const note = noted("On top", change);
   const gesture = {note, layer: encodeStamp(change.name), top: true};
-  act({gesture}, {note, first: change.shape?.from});
+  makeGesture({gesture}, {note, first: change.shape?.from});
 }
 
 /** Repeat an own operation that lost to another one.
@@ -74,7 +74,7 @@ export function putOnTop(change) {
  * @param {Operation} operation
  */
 export function putAgain(change, {stamp}) {
-  act({again: {stamp: encodeStamp(stamp)}}, {note: noted("Put again", change)});
+  makeGesture({again: {stamp: encodeStamp(stamp)}}, {note: noted("Put again", change)});
 }
 
 /** Exclude a site, or include it again. Others exclude it, too, once that is shared.
@@ -83,7 +83,7 @@ export function putAgain(change, {stamp}) {
  */
 export function excludeSite(site, isExcluded = true) {
   const note = `Site ${site} is ${isExcluded ? "excluded" : "included again"}`;
-  act({site: {site, out: isExcluded, note}}, {note});
+  makeGesture({site: {site, out: isExcluded, note}}, {note});
 }
 
 /** Undo the last own operation, pending or not. */
@@ -134,7 +134,7 @@ function runPresses() {
     else {
       const note = [UNDO_NOTES[does], noteOf(stamp)].filter(Boolean).join(": ");
       const target = typeof stamp === "string" ? stamp : encodeStamp(stamp);
-      act({undo: {stamp: target}}, {note, does, undoes: stamp});
+      makeGesture({undo: {stamp: target}}, {note, does, undoes: stamp});
     }
   }
 }
@@ -157,7 +157,7 @@ function warnOfBlocked(stamp) {
  * @param {Pending["command"]} command
  * @param {{note: string} & Partial<Pending>} about
  */
-function act(command, {note, shape, first, does = "apply", undoes, taken = ""}) {
+function makeGesture(command, {note, shape, first, does = "apply", undoes, taken = ""}) {
   const newest = [...store.pending.values()].at(-1);
   if (JSON.stringify(newest?.command) === JSON.stringify(command)) return;
   const key = crypto.randomUUID();
@@ -181,11 +181,11 @@ export function persistPending() {
 
 /** Restore what was pending when this tab was reloaded, if it has the same seat again. */
 export function restorePending() {
-  const {at, acts} = loadPending(sessionStorage);
-  if (acts.length && at === need("me").at) {
-    store.pending = new Map([...acts, ...store.pending]);
-  } else if (acts.length) {
-    tell(messages.pendingOfOtherSeat(acts.length), true);
+  const {at, gestures} = loadPending(sessionStorage);
+  if (gestures.length && at === need("me").at) {
+    store.pending = new Map([...gestures, ...store.pending]);
+  } else if (gestures.length) {
+    tell(messages.pendingOfOtherSeat(gestures.length), true);
     persistPending();
   }
 }

@@ -3,17 +3,17 @@
 
 /** @typedef {import("./types.mjs").Stamp} Stamp */
 /**
- * A pending act, by its key; `undoes` is the key or the stamp of what it undoes or redoes.
- * @typedef {{key: string, does: "apply" | "undo" | "redo", undoes?: string | Stamp}} PendingAct
+ * A pending gesture, by its key; `undoes` is the key or the stamp of what it undoes or redoes.
+ * @typedef {{key: string, does: "apply" | "undo" | "redo", undoes?: string | Stamp}} PendingGesture
  *
- * What to undo or redo: a stamp, or the key of a pending act; null: nothing; undefined: not known
- * until the pending acts are confirmed.
+ * What to undo or redo: a stamp, or the key of a pending gesture; null: nothing; undefined: not known
+ * until the pending gestures are confirmed.
  * @typedef {Stamp | string | null | undefined} Target
  */
 
 /** Return what Undo would undo and Redo would redo.
  * @param {{undo: Stamp | null, redo: Stamp | null}} confirmed
- * @param {PendingAct[]} pending     the oldest first
+ * @param {PendingGesture[]} pending     the oldest first
  * @returns {{undo: Target, redo: Target}}
  */
 export function nextOf({undo, redo}, pending) {
@@ -31,8 +31,8 @@ export function nextOf({undo, redo}, pending) {
   return {undo: undos.at(-1), redo: redos.at(-1)};
 }
 
-/** Return the keys and stamps of what pending acts undo, unless these are undone themselves.
- * @param {PendingAct[]} pending
+/** Return the keys and stamps of what pending gestures undo, unless these are undone themselves.
+ * @param {PendingGesture[]} pending
  */
 export function findUndone(pending) {
   const gone = new Set();

@@ -1,6 +1,6 @@
 // Actions: ask for a comparison of two roads over many days, and stop it.
 
-import {ask} from "./asking.mjs";
+import {ask} from "./questions.mjs";
 import * as messages from "./messages.mjs";
 import {notify, need, layersOf, store, tell} from "./store.mjs";
 import {periodShown} from "./view.mjs";

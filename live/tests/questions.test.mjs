@@ -3,7 +3,7 @@
 import assert from "node:assert/strict";
 import {test} from "node:test";
 
-import {ask, askUntilFree} from "../page/asking.mjs";
+import {ask, askUntilFree} from "../page/questions.mjs";
 import {Disconnected} from "../page/connection.mjs";
 import {store} from "../page/store.mjs";
 

@@ -1,21 +1,21 @@
 // View: the lists of changes (not shared yet, shared), and the news of what others shared.
 
 import {openPreview, putAgain, putOnTop, redoNewest, refreshLists, shareAll, take, undoNewest, withdraw}
-  from "./acting.mjs";
+  from "./gestures.mjs";
 import {countCurves} from "./area.mjs";
 import {next} from "./changes.mjs";
-import {dropWaiting, editInForm} from "./drafting.mjs";
+import {dropWaiting, editInForm} from "./draft.mjs";
 import {$, activeIn, button, element, headCell, on, row, showList} from "./elements.mjs";
 import {isCovered, lostOf, privateOf} from "./layers.mjs";
-import {demandsOfFile, historyOf} from "./listing.mjs";
-import {setOpen, showChange} from "./looking.mjs";
+import {demandsOfFile, historyOf} from "./changetexts.mjs";
+import {setOpen, showChange} from "./navigation.mjs";
 import * as messages from "./messages.mjs";
 import {keyOf} from "./stamps.mjs";
 import {need, layersOf, now, store, watch} from "./store.mjs";
 import {kmText, plural, whole} from "./units.mjs";
 
 /** @typedef {import("./elements.mjs").Item} Item */
-/** @typedef {import("./listing.mjs").Listed} Listed */
+/** @typedef {import("./changetexts.mjs").Listed} Listed */
 /** @typedef {import("./types.mjs").Pending} Pending */
 
 const MOST_PAST = 100;          // operations that the page lists
@@ -61,7 +61,7 @@ const versionOf = ({change, text, state, cover, lost, meta}) =>
 const listedItem = (shown) => ({key: keyOf(shown.change.name), version: versionOf(shown),
                             make: () => changeElement(shown)});
 
-/** @type {(pending: [key: string, act: Pending]) => Item} */
+/** @type {(pending: [key: string, gesture: Pending]) => Item} */
 const pendingItem = ([key, {note}]) => ({key, version: note, make: () => element("li", "", {},
   element("p", note + " ", {className: "note"},
     element("span", "pending", {className: "state pending"})))});

@@ -37,7 +37,7 @@ async function refuseReturn(refused, kept = OF_TAB, seats = [], browser = []) {
   Object.assign(globalThis, {sessionStorage: new TabStorage(kept),
                              localStorage: new TabStorage({seats: JSON.stringify(browser)}), location: {origin: "http://here"},
                              WebSocket: RefusingSocket});
-  const {connect} = await import("../page/joining.mjs");
+  const {connect} = await import("../page/session.mjs");
   const {store} = await import("../page/store.mjs");
   Object.assign(store, {hello: null, wishes: null});
   connect();

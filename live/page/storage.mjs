@@ -5,7 +5,7 @@
 
 const NAME = "pending";
 
-/** Store the pending acts of a seat. Return whether that succeeded.
+/** Store the pending gestures of a seat. Return whether that succeeded.
  * @param {Storage} storage
  * @param {string} at        the seat
  * @param {Map<string, Pending>} pending     by key
@@ -19,26 +19,26 @@ export function storePending(storage, at, pending) {
   }
 }
 
-/** Return an act that an older page may have stored, as this page has it: its shape was an array, and
+/** Return a gesture that an older page may have stored, as this page has it: its shape was an array, and
  * `does` had another word for "apply".
- * @param {Pending} act
+ * @param {Pending} gesture
  * @returns {Pending}
  */
-const modernize = (act) => ({...act, ...(Array.isArray(act.shape) ? {shape: null} : {}),
-                             does: act.does === "undo" || act.does === "redo" ? act.does : "apply"});
+const modernize = (gesture) => ({...gesture, ...(Array.isArray(gesture.shape) ? {shape: null} : {}),
+                             does: gesture.does === "undo" || gesture.does === "redo" ? gesture.does : "apply"});
 
-/** Return the stored acts, and their seat; "" if nothing is stored.
+/** Return the stored gestures, and their seat; "" if nothing is stored.
  * @param {Storage} storage
- * @returns {{at: string, acts: [string, Pending][]}}
+ * @returns {{at: string, gestures: [string, Pending][]}}
  */
 export function loadPending(storage) {
   try {
     /** @type {{at?: string, acts?: [string, Pending][]}} */
     const found = JSON.parse(storage.getItem(NAME) ?? "{}");
-    const acts = Array.isArray(found.acts) ? found.acts : [];
-    return {at: found.at ?? "", acts: acts.map(([key, act]) => [key, modernize(act)])};
+    const gestures = Array.isArray(found.acts) ? found.acts : [];
+    return {at: found.at ?? "", gestures: gestures.map(([key, gesture]) => [key, modernize(gesture)])};
   } catch {
-    return {at: "", acts: []};
+    return {at: "", gestures: []};
   }
 }
 

@@ -7,7 +7,7 @@ import {byStamp, keyOf} from "./stamps.mjs";
 
 /** @typedef {import("./layers.mjs").Layers} Layers */
 /** @typedef {import("./types.mjs").Change} Change */
-/** @typedef {import("./types.mjs").Deed} Deed */
+/** @typedef {import("./types.mjs").Effect} Effect */
 /** @typedef {import("./types.mjs").Operation} Operation */
 /** @typedef {import("./types.mjs").Rectangle} Rectangle */
 /** @typedef {import("./types.mjs").Stamp} Stamp */
@@ -19,10 +19,10 @@ import {byStamp, keyOf} from "./stamps.mjs";
  */
 
 const MOST_PARTS = 4;           // of a change that the list shows
-/** @type {Record<Deed, string>} */
+/** @type {Record<Effect, string>} */
 const DONE = {put: "put", change: "changed", withdraw: "withdrawn", top: "put on top",
               undo: "undone", redo: "redone", exclude: "excluded", include: "included again"};
-/** @type {Record<Deed, string>} */
+/** @type {Record<Effect, string>} */
 const DID = {put: "put it", change: "changed it", withdraw: "withdrew it", top: "put it on top",
               undo: "undid a change to it", redo: "redid a change to it", exclude: "excluded it",
               include: "included it again"};

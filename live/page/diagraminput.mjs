@@ -2,16 +2,16 @@
 // at the pointer or the cursor.
 
 import {cellAt, rowAt, stepAt} from "../../viewer/drawing.mjs";
-import {redoNewest, undoNewest} from "./acting.mjs";
+import {redoNewest, undoNewest} from "./gestures.mjs";
 import {areaOfShape} from "./area.mjs";
 import {applyArea, beginCorner, beginDrag, chooseTool, dropArea, endDrag, hasMoved, moveCursor,
-        noteClick, readPlace, showArea, showDrawn, useLetters} from "./drafting.mjs";
+        noteClick, readPlace, showArea, showDrawn, useLetters} from "./draft.mjs";
 import {$, closest, on} from "./elements.mjs";
 import {demandOfTool, valueOfTool} from "./formvalues.mjs";
 import {OF_ONE, edgeNear, nearestIn, rectangleBetween, sameShape, shapeWithEdge, snap}
   from "./geometry.mjs";
 import {isInForce} from "./layers.mjs";
-import {moveBy, moveTo, setFollowing, showRoad, zoomBy} from "./looking.mjs";
+import {moveBy, moveTo, setFollowing, showRoad, zoomBy} from "./navigation.mjs";
 import * as messages from "./messages.mjs";
 import {cornersOf} from "./picture.mjs";
 import {isOwn, layersOf, layersShown, need, roadOf, store, tell, watch, whoseShown}
@@ -305,17 +305,17 @@ function onDiagramKey(event) {
   const far = event.shiftKey ? 10 : 1;
   const {extent} = store;
   /** @type {Record<string, () => void>} */
-  const acts = {
+  const functions = {
     " ": onSpace, Enter: () => onEnter(event.shiftKey), Escape: drop,
     PageUp: () => moveBy(0, -extent.span / 2), PageDown: () => moveBy(0, extent.span / 2),
     Home: () => moveBy(0, -extent.step || -1), End: () => setFollowing(true),
     "+": () => zoomBy(true, {}, {times: far === 1}), "=": () => zoomBy(true, {}, {places: false}),
     "-": () => zoomBy(false, {}, {places: false}), _: () => zoomBy(false, {}, {times: false}),
   };
-  const act = ARROWS[event.key] ? () => onArrow(ARROWS[event.key], far) : acts[event.key];
-  if (!act) return;
+  const does = ARROWS[event.key] ? () => onArrow(ARROWS[event.key], far) : functions[event.key];
+  if (!does) return;
   event.preventDefault();
-  act();
+  does();
 }
 
 /** @param {KeyboardEvent} event */

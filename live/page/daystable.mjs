@@ -2,7 +2,7 @@
 // first their progress, then means with intervals, in the place of the figures of one day.
 
 import {assign} from "./assign.mjs";
-import {askDays, daysAsked, daysShown, dropDays, dropOldDays, stopDays} from "./days.mjs";
+import {askDays, daysAsked, daysShown, dropDays, dropOldDays, stopDays} from "./comparison.mjs";
 import {$, button, childrenOf, element, findElement} from "./elements.mjs";
 import {figureTable, wordsOf} from "./figuretable.mjs";
 import {store, watch} from "./store.mjs";
