@@ -14,7 +14,8 @@ from unittest import mock
 from faulty import Bus, Disk, Here, soon
 from figures_told import means
 from running import Case, until
-from server.figures import days, figures
+from server.figures import days
+from server.figures.child import Child
 from server.tabs.refusals import Refused
 from server.journal.records import SeatUsed
 from server.journal.journal import Journal
@@ -350,7 +351,7 @@ class Written(Case):
         self.disk.is_read_only()
         for _ in range(2):
             self.assertEqual(await self.refused(self.here.put(self.ada, [*LIMIT, 4])), "NotWritten")
-            reply = await soon(keeper.ask(self.ben, (self.ada,), lambda: keeper.say(b'{"scenario":{"at":"seat1"}}', {})))
+            reply = await soon(keeper.ask(self.ben, (self.ada,), lambda: keeper.program.ask(b'{"scenario":{"at":"seat1"}}')))
             self.assertIn(b'["limit",2,50,', reply)
             self.assertIn(b",3]]", reply)
         self.assertIn("read-only", str(keeper.trouble).lower())
@@ -398,8 +399,8 @@ def counted() -> Iterator[list[Any]]:
             computed.append(found := await does(*given))
             return found
         return also
-    with mock.patch.object(figures.Figures, "compute", kept(figures.Figures.compute)), mock.patch.object(
-            days.Question, "answer", kept(days.Question.answer)):
+    with mock.patch.object(Child, "ask_in_turn", kept(Child.ask_in_turn)), mock.patch.object(
+            days.Comparisons, "compare", kept(days.Comparisons.compare)):
         yield computed
 
 

@@ -85,6 +85,12 @@ class Child(Generic[Q, A]):
             raise Refused("Failed", "the server could not compute this; its log says why")
         return found
 
+    async def ask_in_turn(self, index: int, asked: Q, path: str) -> A:
+        """Answer the question of a seat like `ask`, but simulate one road at a time besides the laboratory's. Raise `Refused` if the seat
+        waits already, or too many wait."""
+        async with wait_for_slot(index):
+            return await self.ask(asked, path)
+
     async def _running(self, path: str) -> asyncio.subprocess.Process:
         """Return the process, started if necessary."""
         if self._process is None or self._process.returncode is not None or path != self._path:

@@ -28,11 +28,11 @@ Curve = TypedDict("Curve", {"points": Sequence["tuple[int, float]"], "capacity":
 """What an inlet admits: `points` are (chance in 1/65,536, cars per hour) in rising chances; `capacity` is the maximum."""
 
 
-class Curves(child.Child[Inflow, Curve]):
+class Curves:
     """Measures curves one at a time, each only once: a file of the folder keeps them over restarts."""
 
     def __init__(self, folder: Path) -> None:
-        super().__init__(__name__, NICE)
+        self.child: child.Child[Inflow, Curve] = child.Child(__name__, NICE)
         self._file = folder / CURVES_FILE
         self._kept = read_kept(self._file)
         self._lock = asyncio.Lock()
@@ -43,7 +43,7 @@ class Curves(child.Child[Inflow, Curve]):
         if key not in self._kept:
             async with self._lock:
                 if key not in self._kept:
-                    self._keep(key, await self.ask(asked, path))
+                    self._keep(key, await self.child.ask(asked, path))
         return self._kept[key]
 
     def _keep(self, key: str, curve: Curve) -> None:
@@ -60,16 +60,10 @@ class Curves(child.Child[Inflow, Curve]):
 def read_kept(path: Path) -> dict[str, Curve]:
     """Return the curves in a file. Skip incomplete lines."""
     found: dict[str, Curve] = {}
-    try:
-        lines = path.read_bytes().splitlines()
-    except OSError:
-        return found
-    for line in lines:
-        with contextlib.suppress(ValueError, TypeError, KeyError):
+    for line in path.read_bytes().splitlines() if path.exists() else ():
+        with contextlib.suppress(ValueError):
             key, curve = json.loads(line)
-            points = [(int(chance), float(flow)) for chance, flow in curve["points"]]
-            if len(points) == POINTS + 1:
-                found[str(key)] = {"points": points, "capacity": float(curve["capacity"])}
+            found[key] = curve
     return found
 
 

@@ -1,14 +1,14 @@
 """Compare two roads over many days, to find out whether a difference is due to the change or to chance.
 
-A day is a seed: it has drivers of its own. As a child, this module answers a `DaysAsked` with a `DaysTold` after each day: the figures
-of the days that are done, over the steps `first` to `last` - 1, as means with 95 % intervals.
+A day is a seed: it has drivers of its own. As a child, this module answers a `DaysQuestion` with a `DaysAnswer` after each day: the
+figures of the days that are done, over the steps `first` to `last` - 1, as means with 95 % intervals.
 """
 from __future__ import annotations
 
 import contextlib
 import ctypes
 import signal
-from typing import Callable, Iterator, Sequence, TypedDict
+from typing import Awaitable, Callable, Iterator, Sequence, TypedDict
 
 from zegdrut.figures import Value, compare, measure_day
 from zegdrut.figures.days import SEEDS
@@ -21,78 +21,67 @@ from . import child
 from .figures import Row, TwoRoads, list_of_live, sides_of, write_rows
 
 NICE = 10
-DaysAsked = TypedDict("DaysAsked", {"roads": TwoRoads, "days": int})
-DaysTold = TypedDict("DaysTold", {"done": int, "figures": Sequence[Row]})
+DaysQuestion = TypedDict("DaysQuestion", {"roads": TwoRoads, "days": int})
+DaysAnswer = TypedDict("DaysAnswer", {"done": int, "figures": Sequence[Row]})
 
 
-class Question:
-    """A seat's question about two roads over many days. A child works it out, until it is done or stopped."""
+class Comparison:
+    """A comparison of a seat, and the answer so far."""
 
     def __init__(self, index: int, days: int) -> None:
         self.index, self.days = index, days
-        self._told: DaysTold = {"done": 0, "figures": []}
-        self._is_stopped = False
-        self._child: child.Child[DaysAsked, DaysTold] = child.Child(__name__, NICE, None)
-
-    @property
-    def done(self) -> int:
-        """Return the number of days that are done."""
-        return self._told["done"]
-
-    async def answer(self, roads: TwoRoads, progress: Callable[[], None]) -> dict[str, object]:
-        """Return the figures; if the question was stopped, of the days that were done. Call `progress` after each day."""
-        def hear(told: DaysTold) -> None:
-            self._told = told
-            progress()
-        try:
-            await self._child.ask({"roads": roads, "days": self.days}, roads["program"], hear)
-        except Refused:
-            if not self._is_stopped:
-                raise
-        finally:
-            self._child.close()
-        if not self.done:
-            raise Refused("Stopped", "the request was stopped before the first day was simulated")
-        return {"days": self.done, "stopped": self.done < self.days, "figures": self._told["figures"]}
-
-    def stop(self) -> None:
-        self._is_stopped = True
-        self._child.close()
+        self.answer: DaysAnswer = {"done": 0, "figures": []}
 
 
-class DayQuestions:
-    """The question that is running: there is one at a time, for all seats."""
+class Comparisons:
+    """Works out one comparison at a time, for all seats."""
 
     def __init__(self) -> None:
-        self.now: Question | None = None
+        self._now: Comparison | None = None
+        self._child: child.Child[DaysQuestion, DaysAnswer] = child.Child(__name__, NICE, None)
 
-    def begin(self, index: int, days: int, name: Callable[[int], str]) -> Question:
-        """Begin a question of a seat, and stop its former one. Raise `Refused` if another seat's question is running."""
-        now = self.now
-        if now is not None and now.index != index:
-            raise Refused("Busy", f"{now.days} days are being simulated for {name(now.index)} ({now.done} done): try again when that "
-                          "is done")
-        self.stop(index)
-        self.now = Question(index, days)
-        return self.now
+    async def compare(self, mine: Comparison, name: Callable[[int], str], find_roads: Callable[[], Awaitable[TwoRoads]],
+                      progress: Callable[[int], None]) -> dict[str, object]:
+        """Return the figures of all days; if the comparison is stopped, of those that are done. Stop the seat's former comparison. Call
+        `progress` with the number of days that are done. Raise `Refused` if a comparison of another seat is running; `name` returns its
+        name."""
+        now = self._now
+        if now is not None and now.index != mine.index:
+            raise Refused("Busy", f"{now.days} days are being simulated for {name(now.index)} ({now.answer['done']} done): try again when "
+                          "that is done")
 
-    def end(self, question: Question) -> None:
-        if self.now is question:
-            self.now = None
+        def hear(answer: DaysAnswer) -> None:
+            mine.answer = answer
+            progress(answer["done"])
+        self.stop()
+        self._now = mine
+        try:
+            roads = await find_roads()
+            if self._now is mine:
+                await self._child.ask({"roads": roads, "days": mine.days}, roads["program"], hear)
+        except Refused:
+            if self._now is mine:
+                raise
+        finally:
+            if self._now is mine:
+                self.stop()
+        done = mine.answer["done"]
+        if not done:
+            raise Refused("Stopped", "the request was stopped before the first day was simulated")
+        return {"days": done, "stopped": done < mine.days, "figures": mine.answer["figures"]}
 
     def stop(self, index: int | None = None) -> bool:
-        """Stop the question of a seat, or of any seat if none is given. Return whether there was one."""
-        now = self.now
-        if now is None or index is not None and now.index != index:
+        """Stop the comparison of a seat, or of any seat if none is given. Return whether there was one."""
+        if self._now is None or index not in (None, self._now.index):
             return False
-        now.stop()
-        self.now = None
+        self._now = None
+        self._child.close()
         return True
 
 
 # In the child
 
-def simulate_days(asked: DaysAsked) -> Iterator[DaysTold]:
+def simulate_days(asked: DaysQuestion) -> Iterator[DaysAnswer]:
     """Simulate both roads with each seed, on all processors but one. Yield the figures after each day."""
     roads, days = asked["roads"], list[Sequence[Value]]()
     window, figures, sides = Window(roads["first"], roads["last"]), list_of_live(roads["plan"]), sides_of(roads)

@@ -11,7 +11,7 @@ from zegdrut.program.wire import PlanLine, WrittenEdit
 from zegdrut.roads.units import to_km
 
 from ..journal.journal import to_json
-from ..roads.program import Program, command_of, import_lines, start
+from ..roads.program import command_of, import_lines, start
 from ..tabs.refusals import Refused
 from .figures import DetectorFigures
 
@@ -27,10 +27,8 @@ def script(plan: PlanLine, name: str, edits: Sequence[WrittenEdit], first: int, 
     """Yield the lines of a script that shows a road from the step `first` to `last`: plan, edits, rows, and counts by the minute."""
     if (last - first + 1) * (plan["length"] + 3) > MOST:
         raise Refused("Range", f"a transcript of this road has at most {MOST // (plan['length'] + 3)} rows: choose a shorter period")
-    at = name.encode()[:LONGEST_REPLICA].decode(errors="ignore")
-    yield {**plan, "replicas": [at]}
-    yield from import_lines(at, edits)
-    yield {"advance": {"at": at, "to": last}}
+    at, lines = lines_to(plan, name, edits, last)
+    yield from lines
     at_once = min(1_024, MOST_PIECE // (plan["length"] + 3))
     for begin in range(first, last + 1, at_once):
         yield {"diagram": {"at": at, "from": begin, "to": min(last, begin + at_once - 1)}}
@@ -39,29 +37,28 @@ def script(plan: PlanLine, name: str, edits: Sequence[WrittenEdit], first: int, 
             yield {"count": {"at": at, "detector": detector, "from": begin, "to": min(last, begin + EACH)}}
 
 
-def commands(plan: PlanLine, name: str, edits: Sequence[WrittenEdit], last: int) -> str:
-    """Return the script that makes a road: plan, edits, and an advance to the step `last`."""
+def lines_to(plan: PlanLine, name: str, edits: Sequence[WrittenEdit], last: int) -> tuple[str, list[Mapping[str, object]]]:
+    """Return the replica of a script, and the lines that make a road: plan, edits, and an advance to the step `last`."""
     at = name.encode()[:LONGEST_REPLICA].decode(errors="ignore")
-    lines: list[Mapping[str, object]] = [{**plan, "replicas": [at]}, *import_lines(at, edits), {"advance": {"at": at, "to": last}}]
+    return at, [{**plan, "replicas": [at]}, *import_lines(at, edits), {"advance": {"at": at, "to": last}}]
+
+
+def format_lines(lines: Iterable[Mapping[str, object]]) -> str:
     return "".join(to_json(line) + "\n" for line in lines)
 
 
 async def transcript(path: str, plan: PlanLine, lines: Iterable[Mapping[str, object]]) -> list[str]:
     """Return lines and a program's replies to them, alternating, in pieces. `path` is that of road_lab."""
-    pieces = [""]
-    program: Program | None = None
+    first, *others = map(to_json, lines)
+    program, pieces = await start(command_of(path, plan), first.encode()), [f'{first}\n{{"open":1}}\n']
     try:
-        for line in map(to_json, lines):
-            if program is None:
-                program, reply = await start(command_of(path, plan), line.encode()), b'{"open":1}'
-            else:
-                reply = await program.ask(line.encode())
+        for line in others:
+            reply = await program.ask(line.encode())
             if len(pieces[-1]) > MOST_PIECE:
                 pieces.append("")
             pieces[-1] += f"{line}\n{reply.decode()}\n"
     finally:
-        if program is not None:
-            program.kill()
+        program.kill()
     return pieces
 
 

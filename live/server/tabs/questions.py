@@ -8,13 +8,15 @@ from typing import Mapping, Sequence, TypeVar, Union
 
 from zegdrut import Edit
 from zegdrut.figures.lost import find_entry
-from zegdrut.figures.trips import DetectorCount, Window, count_seconds_on
+from zegdrut.figures.trips import Window
 from zegdrut.program.grammar import LAST_HORIZON
 from zegdrut.program.rows import count_cars
-from zegdrut.program.wire import CountReply, WrittenEdit
+from zegdrut.program.wire import WrittenEdit
 
-from ..figures import child, curves, days, figures, report, saving
-from ..figures.figures import DetectorFigures, TwoDemands, TwoRoads
+from ..figures import curves, days, figures, report, saving
+from ..figures.child import Child, wait_for_slot
+from ..figures.figures import DetectorFigures, FiguresAnswer, FiguresQuestion, TwoDemands, TwoRoads
+from ..figures.report import ReportAnswer, ReportQuestion
 from ..journal.journal import to_json
 from ..journal.keeper import SHARED
 from ..journal.lab import Lab
@@ -49,17 +51,14 @@ Reply = Union[bytes, Fields]
 T = TypeVar("T")
 
 
-def detector_count(said: CountReply, edits: list[Edit], detector: int, window: Window) -> DetectorCount:
-    """Return what a detector counted in a window, given the program's reply. `edits` are those of detectors, which switch them."""
-    return DetectorCount(said["cars"], said["speeds"], count_seconds_on(edits, detector, window), window.steps)
-
-
 class Questions:
     """Answers the queries of seats, each in the turn of its seat."""
 
     def __init__(self, lab: Lab) -> None:
         self._lab, self._keeper = lab, lab.keeper
-        self._previews, self._days, self._figures = Previews(), days.DayQuestions(), figures.Figures()
+        self._previews, self._comparisons = Previews(), days.Comparisons()
+        self._figures: Child[FiguresQuestion, FiguresAnswer] = Child("server.figures.figures", figures.NICE)
+        self._reports: Child[ReportQuestion, ReportAnswer] = Child("server.figures.report", report.NICE)
         self._saved, self._curves = saving.Saved(), curves.Curves(lab.keeper.folder)
 
     def road(self, index: int, at: str) -> AskedRoad:
@@ -70,14 +69,15 @@ class Questions:
 
     def close(self) -> None:
         self._previews.close()
-        self._days.stop()
+        self._comparisons.stop()
         self._figures.close()
-        self._curves.close()
+        self._reports.close()
+        self._curves.child.close()
 
     def drop_seat(self, index: int) -> None:
         """Drop previews, questions and transcripts of a seat whose tab has gone."""
         self._previews.put(index, None)
-        self._days.stop(index)
+        self._comparisons.stop(index)
         self._saved.drop(index)
 
     async def ask_program(self, road: AskedRoad, times: Times, verb: str, fields: Mapping[str, Json]) -> bytes:
@@ -185,7 +185,7 @@ class Questions:
         replies, edits = await self._lines(road, lines, times)
         watched = [Edit.read(edit) for edit in edits if edit[0] == "watch"]
         windows = [Window(start, min(last, start + each) if each else last) for start in starts]
-        return [[figures.detector_figures(detector_count(json.loads(replies[place * detectors + detector]), watched, detector, window))
+        return [[figures.detector_figures(json.loads(replies[place * detectors + detector]), watched, detector, window)
                  for detector in range(detectors)] for place, window in enumerate(windows)]
 
     async def _lines(self, road: AskedRoad, lines: list[bytes], times: Times) -> tuple[list[bytes], Sequence[WrittenEdit]]:
@@ -319,9 +319,12 @@ class Questions:
         """Return the figures of two roads: of the preview if `of` is "preview", else of the shared road and the seat's own."""
         roads = await self._find_both_roads(index, own, of, first, last)
         slots = [f"{index} before", f"{index} after"] if of == "preview" else ["shared", f"{index} own"]
-        return {"from": first, "to": last, **await self._figures.compute(index, roads, slots)}
+        said = await self._figures.ask_in_turn(index, {"roads": roads, "slots": slots, "seconds": figures.SECONDS}, roads["program"])
+        if "done" in said:
+            raise Refused("Busy", f"the figures are computed up to step {said['done']} of {last} so far: ask again")
+        return {"from": first, "to": last, **said}
 
-    async def _find_both_roads(self, index: int, own: Replica, of: str, first: int, last: int) -> TwoRoads:
+    async def _find_both_roads(self, index: int, own: Replica, of: str | None, first: int, last: int) -> TwoRoads:
         """Return two roads and a window, for a program that simulates them."""
         if first >= last:
             raise Refused("Range", f"`from` {first} must be below `to` {last}")
@@ -351,18 +354,15 @@ class Questions:
     async def days(self, index: int, own: Replica, of: str | None, first: int, last: int) -> Reply:
         """Return the figures of two roads over many days, each with its mean and interval. If `of` is None, stop that question."""
         if of is None:
-            return {"stopped": self._days.stop(index)}
-        plan, listeners, number = self._keeper.state.plan, self._keeper.listeners, self._keeper.settings.days
-        if not isinstance(plan["words"], int):
+            return {"stopped": self._comparisons.stop(index)}
+        number = self._keeper.settings.days
+        if not isinstance(self._keeper.state.plan["words"], int):
             raise Refused("OneDay", "this road has fixed random numbers (no seed), so all days are the same: look at the figures of "
                           "this day")
-        question = self._days.begin(index, number, lambda other: self._keeper.state.seats[other].name)
-        try:
-            roads = await self._find_both_roads(index, own, of, first, last)
-            said = await question.answer(roads, lambda: listeners.days.notify(index, question.done, question.days))
-        finally:
-            self._days.end(question)
-        return {"from": first, "to": last, **said}
+        return {"from": first, "to": last, **await self._comparisons.compare(
+            days.Comparison(index, number), lambda other: self._keeper.state.seats[other].name,
+            lambda: self._find_both_roads(index, own, of, first, last),
+            lambda done: self._keeper.listeners.days.notify(index, done, number))}
 
     # What is saved
 
@@ -373,7 +373,7 @@ class Questions:
         self._require_reachable(last)
         if piece == 0:
             self._saved.make_room(index)
-            async with child.wait_for_slot(index):
+            async with wait_for_slot(index):
                 name = self._keeper.state.seats[replica.index].name or replica.at
                 lines = saving.script(self._keeper.state.plan, name, rows_of(await self._timeline(replica.road)), first, last)
                 self._saved.put(index, await saving.transcript(self._keeper.path, self._keeper.state.plan, lines))
@@ -386,9 +386,8 @@ class Questions:
         day, seat = clock_of(self._keeper.folder), self._keeper.state.seats[index]
         roads["names"] = ["before", "after"] if of == "preview" else ["shared", seat.name or seat.at]
         clock = () if day is None else (day.to_text(0), *(None if one is None else str(one) for one in (day.date, day.zone)))
-        made = await report.make_report(index, {"roads": roads, "title": title, "works": works, "clock": clock,
-                                                "days": report.DAYS})
-        return {"from": first, "to": last, **made}
+        asked: ReportQuestion = {"roads": roads, "title": title, "works": works, "clock": clock, "days": report.DAYS}
+        return {"from": first, "to": last, **await self._reports.ask_in_turn(index, asked, roads["program"])}
 
     async def table_of_counts(self, road: AskedRoad, times: Times, first: int, last: int, each: int) -> Reply:
         """Return a table of what detectors count, as CSV, for each span of `each` steps."""
@@ -421,4 +420,4 @@ class Questions:
         to = self._keeper.now()
         name = "shared" if replica.at == "shared" else self._keeper.state.seats[replica.index].name or replica.at
         edits = rows_of(await self._timeline(replica.road))
-        return {"lines": saving.commands(self._keeper.state.plan, name, edits, to), "to": to}
+        return {"lines": saving.format_lines(saving.lines_to(self._keeper.state.plan, name, edits, to)[1]), "to": to}
