@@ -18,14 +18,13 @@ from typing import Any, Iterator
 sys.path[:0] = [str(Path(__file__).resolve().parents[1]), str(Path(__file__).resolve().parent)]
 
 import running  # noqa: E402
-from oracle import Values, by_rows, oracle_of  # noqa: E402
+from oracle import Values, all_edits, by_rows, oracle_of  # noqa: E402
 from painted import LAST, THERE, random_operation  # noqa: E402
 from running import Case, Server  # noqa: E402
 from server.journal.journal import journal_line, to_json  # noqa: E402
 from server.journal.records import JOURNAL_FORM, Came, Entry, Folder, Keys, Made, SeatGiven, Share, Take, read_plan_line, write_entry  # noqa: E402
 from server.journal.state import Replica, State  # noqa: E402
 from server.model.operations import About, Operation, undo  # noqa: E402
-from server.model.projection import all_edits  # noqa: E402
 from server.model.road import Road  # noqa: E402
 from server.roads.screen import rows_of  # noqa: E402
 

@@ -7,11 +7,12 @@ import itertools
 import json
 import unittest
 
+from oracle import all_edits
 from painted import EMPTY, made_by
 from working import takes_at_most
 from server.model import changes, choices, seen
 from server.model.operations import About, Json, Operation, Shape, exclude, lift, named, put, undo
-from server.model.projection import difference, all_edits
+from server.model.projection import difference
 from server.model.reading import GREATEST_COUNT, Malformed, read_operation
 from server.model.road import Road, change, repeat
 

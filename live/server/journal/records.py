@@ -1,24 +1,23 @@
-"""Define the entries of the journal, form 4: their fields, how these are written, and how an entry changes a state.
+"""Define the entries of the journal, form 4: their fields, how these are read, and how an entry changes a state.
 
     entry = read_entry("take", value, site)     raises `Malformed` if the value is not such an entry
     entry.apply(state)
     write_entry(entry, site)                    {"take": {..}}
 
-An entry is a dataclass. The metadata of a field says how it is read and written. A field that has its default value is not written.
+An entry is a dataclass. `READERS` has the reader of each field. A field that has its default value is not written.
 """
 from __future__ import annotations
 
 import dataclasses
-import json
-from dataclasses import dataclass, field
-from typing import TYPE_CHECKING, Callable, ClassVar, Generic, Mapping, NamedTuple, Sequence, TypeVar, cast
+from dataclasses import dataclass
+from typing import TYPE_CHECKING, Callable, ClassVar, Mapping, Sequence, TypeVar, cast
 
 from zegdrut.program.grammar import PLAN, check_fields
 from zegdrut.program.wire import PlanLine
 
 from ..model.operations import Json, Operation, Stamp
-from ..model.reading import Malformed, read_kept_operation, read_row, read_site, read_stamp, read_time, whole
-from .entries import CannotStart
+from ..model.reading import Malformed, list_of, read_kept_operation, read_row, read_site, read_stamp, read_time, whole
+from .entries import CannotStart, JournalLine
 
 if TYPE_CHECKING:
     from .state import State
@@ -26,53 +25,28 @@ if TYPE_CHECKING:
 JOURNAL_FORM = 4
 MOST_SEATS = 64
 Fields = Mapping[str, Json]
-Written = dict[str, "dict[str, Json]"]
-S = TypeVar("S", bound="Said")
-T = TypeVar("T")
-V = TypeVar("V", covariant=True)
-J = TypeVar("J", bound=Json)
+J = TypeVar("J", bound="JsonObject")
 
 
-@dataclass(frozen=True)
-class Codec(Generic[V]):
-    """Reads and writes a field. `name` is its name in the journal; if empty, it is the same as in Python."""
-
-    read: Callable[[Json], V]
-    write: Callable[[V], Json]
-    name: str
-
-
-How = Mapping[str, Codec[object]]
-"""The metadata of a field: its codec, as `how`."""
-
-
-def field_format(read: Callable[[Json], T], write: Callable[[T], Json], name: str = "") -> How:
-    codec: Codec[T] = Codec(read, write, name)
-    return {"how": codec}
-
-
-def unconverted(read: Callable[[Json], J], name: str = "") -> How:
-    """Return the metadata of a field whose value is written without conversion."""
-    return field_format(read, lambda value: value, name)
-
-
-class Said:
+class JsonObject:
     """A value that is written as a JSON object. Each subclass is a dataclass."""
 
     __dataclass_fields__: ClassVar[dict[str, dataclasses.Field[object]]]
 
     @classmethod
-    def read(cls: type[S], value: Fields) -> S:
+    def read(cls: type[J], value: Json) -> J:
         """Return the value that a JSON object describes. Raise `Malformed` or KeyError if it describes none."""
-        return cls(**{one.name: one.codec.read(value[one.written]) for one in written_parts(cls)
-                      if one.is_required or value.get(one.written) is not None})
+        if not isinstance(value, dict):
+            raise Malformed(f"a JSON object was expected, not {str(value)[:40]}")
+        return cls(**{part.name: READERS[name](value[name]) for name, part in parts_of(cls)
+                      if part.default is dataclasses.MISSING or value.get(name) is not None})
 
     def fields(self) -> dict[str, Json]:
-        values = ((one, getattr(self, one.name)) for one in written_parts(type(self)))
-        return {one.written: one.codec.write(value) for one, value in values if one.is_required or value != one.default}
+        values = ((name, part.default, getattr(self, part.name)) for name, part in parts_of(type(self)))
+        return {name: write_value(value) for name, default, value in values if value != default}
 
 
-class Entry(Said):
+class Entry(JsonObject):
     """An entry of a journal."""
 
     kind: ClassVar[str]
@@ -81,43 +55,26 @@ class Entry(Said):
         """Change a state as the entry says."""
         raise NotImplementedError
 
-    def written(self) -> Written:
-        """Return the entry as a JSON value, in the form of the journal."""
-        return {self.kind: self.fields()}
+
+def parts_of(kind: type[JsonObject]) -> list[tuple[str, dataclasses.Field[object]]]:
+    """Return the fields of a class, by their names in the journal, which have no `is_`."""
+    return [(part.name.removeprefix("is_"), part) for part in dataclasses.fields(kind)]
 
 
-class Part(NamedTuple):
-    """A field: its names in Python and in the journal, whether it must be present, its default and its codec."""
-
-    name: str
-    written: str
-    is_required: bool
-    default: object
-    codec: Codec[object]
-
-
-PARTS: dict[type[Said], list[Part]] = {}
+def write_value(value: object) -> Json:
+    """Return the value of a field as JSON."""
+    if isinstance(value, Operation):
+        return value.written()
+    if isinstance(value, JsonObject):
+        return value.fields()
+    return [*map(write_value, value)] if isinstance(value, (list, tuple)) else cast(Json, value)
 
 
-def written_parts(kind: type[Said]) -> list[Part]:
-    """Return the fields of a class. A field without a default value is required and always written, even if it has a factory."""
-    if kind not in PARTS:
-        PARTS[kind] = [Part(one.name, one.metadata["how"].name or one.name, one.default is dataclasses.MISSING, one.default,
-                            one.metadata["how"]) for one in dataclasses.fields(kind)]
-    return PARTS[kind]
-
-
-# How fields are read and written
+# How fields are read
 
 def read_string(value: Json) -> str:
     if not isinstance(value, str):
         raise Malformed(f"{str(value)[:40]} is not a string")
-    return value
-
-
-def read_object(value: Json) -> dict[str, Json]:
-    if not isinstance(value, dict):
-        raise Malformed(f"a JSON object was expected, not {str(value)[:40]}")
     return value
 
 
@@ -127,11 +84,6 @@ def read_plan_line(value: Json) -> PlanLine:
     if fault is not None:
         raise Malformed(fault)
     return cast(PlanLine, value)
-
-
-def write_plan(plan: PlanLine) -> Json:
-    written: Json = json.loads(json.dumps(plan))
-    return written
 
 
 def read_number(value: Json) -> float:
@@ -149,40 +101,15 @@ def read_form(value: Json) -> int:
     return JOURNAL_FORM
 
 
-def count_format(most: int, what: str) -> How:
-    return unconverted(lambda value: whole(value, most, what))
+def read_key(value: Json) -> tuple[str, Stamp]:
+    """Return a key and the stamp of its operation."""
+    key, stamp = read_row(value, 2, "a pair has two parts")
+    return read_string(key), read_stamp(stamp)
 
 
-def list_format(read: Callable[[Json], T], write: Callable[[T], Json]) -> How:
-    """Return the metadata of a list, given how its items are read and written."""
-    def read_all(value: Json) -> Sequence[T]:
-        if not isinstance(value, list):
-            raise Malformed(f"a list was expected, not {str(value)[:40]}")
-        return [*map(read, value)]
-    return field_format(read_all, lambda some: [*map(write, some)])
-
-
-def read_keys(value: Json) -> Mapping[str, Stamp]:
-    """Return stamps by key, which are written as a list of pairs."""
-    if not isinstance(value, list):
-        raise Malformed(f"a list was expected, not {str(value)[:40]}")
-    rows = (read_row(pair, 2, "a pair has two parts") for pair in value)
-    return {read_string(key): read_stamp(stamp) for key, stamp in rows}
-
-
-def write_keys(keys: Mapping[str, Stamp]) -> Json:
-    return [[key, [*stamp]] for key, stamp in keys.items()]
-
-
-def write_operation(one: Operation) -> Json:
-    return one.written()
-
-
-TEXT_FORMAT, TIME_FORMAT, NUMBER_FORMAT = unconverted(read_string), unconverted(read_time), unconverted(read_number)
-SEAT_FORMAT, STEP_FORMAT, PLACE = count_format(MOST_SEATS - 1, "seat"), count_format(1 << 30, "step"), count_format(1 << 40, "place")
-OPERATION_FORMAT = field_format(read_kept_operation, write_operation)
-STAMPS = list_format(read_stamp, lambda stamp: [*stamp])
-SHARED_FORMAT, UNSENT_FORMAT = (unconverted(lambda value: value is True, name) for name in ("shared", "unsent"))
+def whole_to(most: int, what: str) -> Callable[[Json], int]:
+    """Return the reader of a whole number of at most `most`."""
+    return lambda value: whole(value, most, what)
 
 
 # Entries
@@ -192,9 +119,9 @@ class Folder(Entry):
     """The first entry: the form of the journal, the plan, and the name of the site."""
 
     kind = "lab"
-    form: int = field(metadata=unconverted(read_form))
-    plan: PlanLine = field(metadata=field_format(read_plan_line, write_plan))
-    site: str = field(metadata=unconverted(read_site))
+    form: int
+    plan: PlanLine
+    site: str
 
     def apply(self, state: State) -> None:
         state.plan, state.site = self.plan, self.site
@@ -205,9 +132,9 @@ class Clock(Entry):
     """The clock: the steps per second, the present step, and the step at which a fast clock stops."""
 
     kind = "clock"
-    rate: float = field(metadata=NUMBER_FORMAT)
-    now: int = field(metadata=STEP_FORMAT)
-    stop: int | None = field(default=None, metadata=STEP_FORMAT)
+    rate: float
+    now: int
+    stop: int | None = None
 
     def apply(self, state: State) -> None:
         state.rate, state.now, state.stop = self.rate, self.now, self.stop
@@ -218,11 +145,11 @@ class SeatGiven(Entry):
     """A seat was given to somebody. `key` is the hash of the tab's key, `upto` how many shared operations it has taken."""
 
     kind = "seat"
-    seat: int = field(metadata=SEAT_FORMAT)
-    name: str = field(metadata=TEXT_FORMAT)
-    key: str = field(metadata=TEXT_FORMAT)
-    when: float = field(metadata=TIME_FORMAT)
-    upto: int = field(default=0, metadata=PLACE)
+    seat: int
+    name: str
+    key: str
+    when: float
+    upto: int = 0
 
     def apply(self, state: State) -> None:
         seat = state.seats[self.seat]
@@ -235,8 +162,8 @@ class SeatUsed(Entry):
     """A seat last had a tab at this time."""
 
     kind = "left"
-    seat: int = field(metadata=SEAT_FORMAT)
-    when: float = field(metadata=TIME_FORMAT)
+    seat: int
+    when: float
 
     def apply(self, state: State) -> None:
         state.seats[self.seat].used = self.when
@@ -247,7 +174,7 @@ class SeatFreed(Entry):
     """A seat was freed."""
 
     kind = "free"
-    seat: int = field(metadata=SEAT_FORMAT)
+    seat: int
 
     def apply(self, state: State) -> None:
         state.free(self.seat)
@@ -259,12 +186,12 @@ class Made(Entry):
     leaves out the site of the operation where it is the folder's own."""
 
     kind = "made"
-    seat: int = field(metadata=SEAT_FORMAT)
-    operation: Operation = field(metadata=OPERATION_FORMAT)
-    key: str | None = field(default=None, metadata=TEXT_FORMAT)
-    is_shared: bool = field(default=False, metadata=SHARED_FORMAT)
-    is_unsent: bool = field(default=False, metadata=UNSENT_FORMAT)
-    title: str = field(default="", metadata=TEXT_FORMAT)
+    seat: int
+    operation: Operation
+    key: str | None = None
+    is_shared: bool = False
+    is_unsent: bool = False
+    title: str = ""
 
     def apply(self, state: State) -> None:
         seat, one = state.seats[self.seat], state.intern(self.operation)
@@ -280,11 +207,11 @@ class Share(Entry):
     """A seat shared private operations."""
 
     kind = "share"
-    seat: int = field(metadata=SEAT_FORMAT)
-    stamps: Sequence[Stamp] = field(metadata=STAMPS)
-    who: str = field(default="", metadata=TEXT_FORMAT)
-    title: str = field(default="", metadata=TEXT_FORMAT)
-    when: float = field(default=0, metadata=TIME_FORMAT)
+    seat: int
+    stamps: Sequence[Stamp]
+    who: str = ""
+    title: str = ""
+    when: float = 0
 
     def apply(self, state: State) -> None:
         wanted = set(self.stamps)
@@ -298,11 +225,11 @@ class Came(Entry):
     """Operations came from other sites; or they are from this site, but their seat was freed."""
 
     kind = "came"
-    operations: Sequence[Operation] = field(metadata=list_format(read_kept_operation, write_operation))
-    who: str = field(default="", metadata=TEXT_FORMAT)
-    title: str = field(default="", metadata=TEXT_FORMAT)
-    when: float = field(default=0, metadata=TIME_FORMAT)
-    is_unsent: bool = field(default=False, metadata=UNSENT_FORMAT)
+    operations: Sequence[Operation]
+    who: str = ""
+    title: str = ""
+    when: float = 0
+    is_unsent: bool = False
 
     def apply(self, state: State) -> None:
         fresh = state.hold_shared([*map(state.intern, self.operations)], self.is_unsent, self.title)
@@ -314,8 +241,8 @@ class Take(Entry):
     """A seat took the first `upto` operations of the shared road."""
 
     kind = "take"
-    seat: int = field(metadata=SEAT_FORMAT)
-    upto: int = field(metadata=PLACE)
+    seat: int
+    upto: int
 
     def apply(self, state: State) -> None:
         state.take(state.seats[self.seat], self.upto)
@@ -326,7 +253,7 @@ class CameBack(Entry):
     """The broker returned these operations, so other sites get them."""
 
     kind = "back"
-    stamps: Sequence[Stamp] = field(metadata=STAMPS)
+    stamps: Sequence[Stamp]
 
     def apply(self, state: State) -> None:
         back = set(self.stamps)
@@ -338,30 +265,26 @@ class Keys(Entry):
     """The stamps of a seat's operations by their keys."""
 
     kind = "done"
-    seat: int = field(metadata=SEAT_FORMAT)
-    keys: Mapping[str, Stamp] = field(metadata=field_format(read_keys, write_keys))
+    seat: int
+    keys: Sequence[tuple[str, Stamp]]
 
     def apply(self, state: State) -> None:
         state.seats[self.seat].done.update(self.keys)
 
 
 @dataclass(frozen=True)
-class News(Said):
+class News(JsonObject):
     """Operations that were shared together: `size` is their number, `upto` how many the shared road had afterwards."""
 
-    upto: int = field(metadata=PLACE)
-    who: str = field(metadata=TEXT_FORMAT)
-    title: str = field(metadata=TEXT_FORMAT)
-    when: float = field(metadata=TIME_FORMAT)
-    size: int = field(metadata=PLACE)
+    upto: int
+    who: str
+    title: str
+    when: float
+    size: int
 
     def reply_fields(self) -> dict[str, Json]:
         """Return the share in the form of a reply to a tab."""
         return {name: value for name, value in self.fields().items() if name != "upto"}
-
-
-def read_news(value: Json) -> News:
-    return News.read(read_object(value))
 
 
 @dataclass(frozen=True)
@@ -369,7 +292,7 @@ class AllNews(Entry):
     """The latest shares."""
 
     kind = "shares"
-    shares: Sequence[News] = field(metadata=list_format(read_news, News.fields))
+    shares: Sequence[News]
 
     def apply(self, state: State) -> None:
         state.shares = [*self.shares]
@@ -380,14 +303,20 @@ class Works(Entry):
     """Every new seat starts with the first `upto` operations of the shared road: the roadworks of a freeway's file."""
 
     kind = "works"
-    upto: int = field(metadata=PLACE)
+    upto: int
 
     def apply(self, state: State) -> None:
         state.works = self.upto
 
 
-AnyEntry = Entry
 ENTRY_KINDS: dict[str, type[Entry]] = {one.kind: one for one in Entry.__subclasses__()}
+PLACE, STEP, TEXT = whole_to(1 << 40, "place"), whole_to(1 << 30, "step"), read_string
+READERS: Mapping[str, Callable[[Json], object]] = {
+    "form": read_form, "plan": read_plan_line, "site": read_site, "rate": read_number, "now": STEP, "stop": STEP,
+    "seat": whole_to(MOST_SEATS - 1, "seat"), "name": TEXT, "key": TEXT, "who": TEXT, "title": TEXT, "when": read_time, "upto": PLACE,
+    "size": PLACE, "operation": read_kept_operation, "operations": list_of(read_kept_operation), "stamps": list_of(read_stamp),
+    "keys": list_of(read_key), "shares": list_of(News.read), "shared": lambda value: value is True, "unsent": lambda value: value is True}
+"""The readers of fields, by their names in the journal."""
 
 
 def read_entry(kind: str, value: Fields, site: str) -> Entry:
@@ -397,13 +326,13 @@ def read_entry(kind: str, value: Fields, site: str) -> Entry:
     operation = value.get("operation")
     if isinstance(operation, dict) and "site" not in operation:
         value = {**value, "operation": {**operation, "site": site}}
-    return ENTRY_KINDS[kind].read(value)
+    return ENTRY_KINDS[kind].read({**value})
 
 
-def write_entry(entry: Entry, site: str) -> Written:
+def write_entry(entry: Entry, site: str) -> JournalLine:
     """Return an entry in the form of the journal of a site."""
-    written = entry.written()
-    operation = written[entry.kind].get("operation")
+    fields = entry.fields()
+    operation = fields.get("operation")
     if isinstance(operation, dict) and operation.get("site") == site:
         del operation["site"]
-    return written
+    return {entry.kind: fields}

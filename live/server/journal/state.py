@@ -22,7 +22,7 @@ from ..model.reading import Malformed
 from ..model.road import Road
 from .journal import CorruptJournal
 from .naming import Counter
-from .records import (JOURNAL_FORM, AllNews, AnyEntry, Came, Clock, Fields, Folder, Keys, Made, News, SeatGiven, Take, Works,
+from .records import (JOURNAL_FORM, AllNews, Came, Clock, Entry, Fields, Folder, Keys, Made, News, SeatGiven, Take, Works,
                       read_entry)
 
 TAB_FORM = 6  # the protocol of tabs
@@ -39,17 +39,11 @@ NO_PLAN: PlanLine = {"length": 0, "inlets": (), "zones": (), "zone": 0, "exit": 
 
 def plan_value(plan: PlanLine, kind: str, index: int) -> int | None:
     """Return the value that the plan gives an object; None for `start`, which a plan does not set."""
-    if kind == "block":
-        return 0
-    if kind == "watch":
-        return 1
-    if kind == "start":
-        return None
     if kind == "inflow":
         return int(plan["inlets"][index][1])
     if kind in ("limit", "slow"):
         return int(plan["zones"][index][kind == "slow"])
-    raise ValueError(f"no kind of object: {kind}")
+    return {"block": 0, "watch": 1, "start": None}[kind]
 
 
 class Replica:
@@ -349,7 +343,7 @@ class State:
 
     # Compaction
 
-    def entries(self) -> Iterator[AnyEntry]:
+    def entries(self) -> Iterator[Entry]:
         """Yield entries that give the same state, each operation once."""
         yield Folder(JOURNAL_FORM, self.plan, self.site)
         yield Clock(self.rate, self.now, self.stop)
@@ -366,9 +360,9 @@ class State:
             if seat.upto:
                 yield Take(seat.index, seat.upto)
             if seat.done:
-                yield Keys(seat.index, seat.done)
+                yield Keys(seat.index, [*seat.done.items()])
 
-    def _shared_entry(self, one: Operation) -> AnyEntry:
+    def _shared_entry(self, one: Operation) -> Entry:
         if one in self.makers:
             return Made(self.makers[one], one, is_shared=True, is_unsent=one in self.unsent, title=self.titles.get(one, ""))
         return Came([one], title=self.titles.get(one, ""), is_unsent=one in self.unsent)

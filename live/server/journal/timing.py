@@ -8,9 +8,8 @@ from typing import Mapping
 from zegdrut.program.grammar import LAST_HORIZON
 
 from ..tabs.refusals import Refused
-from .keeper import A_MOMENT, SHARED, Keeper
+from .keeper import A_MOMENT, SHARED, Keeper, wait_until_written
 from .records import Clock
-from .writing import wait_until_written
 
 STEPS_AHEAD = 36_000  # steps that a replica may run ahead of the clock, and that the clock may be set forward
 FASTEST, FAST = 600, 60  # steps a second; above `FAST` the clock stops after an hour of the road

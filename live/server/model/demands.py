@@ -9,7 +9,7 @@ import math
 from typing import Mapping, Sequence
 
 from .layers import split_by_topmost
-from .operations import END, Json, Operation, Shape, Stamp
+from .operations import END, NO_MORE, Json, Operation, Shape, Stamp
 from .road import Road
 
 DEMAND, PLANNED = "demand", "planned"
@@ -24,7 +24,7 @@ def written_demand(demand: float | None, is_planned: bool = False) -> Mapping[st
     """Return the fields of an operation for the demand that its chance stands for, rounded to whole cars per hour as the page shows it;
     none if there is no demand."""
     if demand is None:
-        return {}
+        return NO_MORE
     whole = math.floor(demand + 0.5)
     return {DEMAND: whole, PLANNED: True} if is_planned else {DEMAND: whole}
 

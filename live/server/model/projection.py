@@ -52,11 +52,6 @@ def difference_like(known: tuple[Road, Road, Edits], before: Road, after: Road) 
     return {**edits, **difference(before, after, own)}
 
 
-def all_edits(road: Road) -> Edits:
-    """Return all edits of a road, which turn the road of the plan into it."""
-    return difference(road.empty(), road)
-
-
 def changed_layers(before: Road, after: Road) -> set[Stamp]:
     """Return the layers that differ between two roads."""
     old, new = before.layers, after.layers

@@ -51,10 +51,6 @@ class Road:
         """Return the operations that give a line a shape or withdraw it, the oldest first, whether they count or not."""
         return [one for one in self.changes_of(line) if one.sets]
 
-    def empty(self) -> Road:
-        """Return the road of the plan alone."""
-        return Road(self.plan)
-
     def copy(self) -> Road:
         road = Road(self.plan)
         road.record, road.layers = self.record.copy(), dict(self.layers)

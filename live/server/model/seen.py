@@ -1,11 +1,14 @@
 """Work out what people see of a line: where it is in force, which lines cover it elsewhere, and which operations on it have lost."""
 from __future__ import annotations
 
-from typing import NamedTuple
+import itertools
+from typing import Iterable, NamedTuple, TypeVar
 
 from .layers import Layer, columns, kinds_of, parts_of, rank, sort_from_top, split_by_topmost
 from .operations import CAPACITY, END, Capacity, Operation, Stamp
 from .road import Road
+
+T = TypeVar("T")
 
 
 class Rectangle(NamedTuple):
@@ -25,27 +28,16 @@ def shown_layer(road: Road, own: Layer) -> list[Rectangle]:
     """Return the rectangles of a layer, or of a part of one. A layer with several parts is covered where any of them is."""
     over = sort_from_top(one for kind in kinds_of(own.kind) for one in road.touching((kind, own.first, own.last, own.begin, own.end))
                          if rank(one) > rank(own))
-    found: list[tuple[int, int, list[tuple[int, int, Stamp | None]]]] = []
-    for low, high, places in columns(over, own.first, own.last, ()):
-        line = merge_spans([(since, until, None if one is None else one.name) for since, until, one in split_by_topmost(
-            (over[place] for place in places), own.begin, own.end)])
-        if found and found[-1][2] == line:
-            found[-1] = found[-1][0], high, line
-        else:
-            found.append((low, high, line))
+    found = [(low, high, join_spans((since, until, None if one is None else one.name) for since, until, one in split_by_topmost(
+        (over[place] for place in places), own.begin, own.end))) for low, high, places in columns(over, own.first, own.last, ())]
     return [Rectangle(own.kind, low, high, since, None if until == END else until, own.value, by)
-            for low, high, line in found for since, until, by in line]
+            for low, high, spans in join_spans(found) for since, until, by in spans]
 
 
-def merge_spans(line: list[tuple[int, int, Stamp | None]]) -> list[tuple[int, int, Stamp | None]]:
-    """Return spans of time with their owners; join neighbours that have the same owner."""
-    found: list[tuple[int, int, Stamp | None]] = []
-    for since, until, by in line:
-        if found and found[-1][2] == by:
-            found[-1] = found[-1][0], until, by
-        else:
-            found.append((since, until, by))
-    return found
+def join_spans(spans: Iterable[tuple[int, int, T]]) -> list[tuple[int, int, T]]:
+    """Return spans, each with what is there; join neighbours that have the same."""
+    runs = ([*run] for _, run in itertools.groupby(spans, key=lambda span: span[2]))
+    return [(run[0][0], run[-1][1], run[0][2]) for run in runs]
 
 
 def visible_rectangles(road: Road, line: Stamp) -> list[Rectangle]:

@@ -20,8 +20,7 @@ from ..journal.journal import CannotStart, to_json
 from ..journal.lab import Lab
 from ..model.demands import INFLOW
 from ..model.operations import END, Json, Shape
-from ..model.reading import LONGEST_NAME, clean_text
-from ..tabs.asked import CommandFields
+from ..model.reading import LONGEST_NAME, Malformed, clean_text, read_shape
 from ..tabs.refusals import Refused
 
 FREEWAY_FILE = "freeway.json"  # the file of a folder with the freeway in km that it began with
@@ -94,13 +93,13 @@ def read_road(path: Path, program: str) -> Planned:
         return Planned(value)
     said = convert_freeway(path, program)
     try:
-        shapes = [shape_of(one) for one in said["shapes"]]
+        shapes = [read_shape(one) for one in said["shapes"]]
         works: list[tuple[Shape, float | None]] = [(shape, None) for shape in shapes if shape.kind != INFLOW]
         chances = [int(chance) for _, chance in cast("list[list[int]]", said["plan"]["inlets"])]
         return Planned(said["plan"], [*demand_shapes(chances, shapes, said["demands"]), *works],
                        clean_text(path.name, LONGEST_NAME) or "freeway")
-    except Refused as fault:
-        raise CannotStart(f"{path}: {fault.why}") from None
+    except Malformed as fault:
+        raise CannotStart(f"{path}: {fault}") from None
 
 
 Converted = TypedDict("Converted", {
@@ -143,11 +142,6 @@ def convert_freeway(path: Path, program: str) -> Converted:
     return converted
 
 
-def shape_of(value: Json) -> Shape:
-    """Return a shape, checked like the shape of a tab."""
-    return CommandFields("gesture", {"shape": value}).shape()
-
-
 def is_another(path: Path, plan: PlanLine, kept: Path) -> bool:
     """Return whether a file has another road than a folder. `kept` is the folder's copy of a freeway in km."""
     value = read_plan(path)
@@ -165,7 +159,7 @@ async def share_works(lab: Lab, road: Planned) -> None:
     index, _ = await lab.seating.join(road.name, "", None)
     try:
         for number, (shape, demand) in enumerate(road.shapes):
-            await lab.put_shape(index, {}, key=f"plan {number}", note="", shape=shape, demand=demand, is_planned=demand is not None)
+            await lab.make(index, {}, f"plan {number}", "", lambda by: lab.put_shape(by, shape, demand, is_planned=demand is not None))
         await lab.share(index, {}, stamps=None, title="")
         await lab.record_works()
         await lab.seating.release_seat(index)

@@ -8,19 +8,20 @@ from __future__ import annotations
 
 import unicodedata
 from itertools import islice
-from typing import Iterator, Mapping, cast
+from typing import Callable, Iterator, Mapping, TypeVar, cast
 
-from zegdrut.program.grammar import GREATEST, Part, kind, list_of, row_of, shown, value_of, whole
+from zegdrut.program.grammar import GREATEST, Part, kind, list_of as faults_of_list, row_of, shown, value_of, whole
 
 from ..journal.journal import to_json
 from ..model.demands import INFLOW, MOST_DEMAND
 from ..model.operations import CAPACITY, Capacity, Json, Shape, Stamp, intern_int
-from ..model.reading import Malformed, clean_text, read_site, read_stamp
+from ..model.reading import Malformed, clean_text, list_of, read_site, read_stamp
 from .refusals import Refused, not_a_command
 
 LONGEST_KEY = 40  # characters
 MOST_FAULTS_NAMED = 3  # faults of a list that a refusal names
 LONG_FIELD = 2_000  # bytes of a field; in a longer one a refusal does not show numbers as they were written, since that takes long
+T = TypeVar("T")
 
 
 def whole_or_none(value: object) -> Iterator[str]:
@@ -29,14 +30,6 @@ def whole_or_none(value: object) -> Iterator[str]:
 
 def capacity_kind(value: object) -> Iterator[str]:
     return iter(() if value == CAPACITY else (f"{shown(value)} is not {CAPACITY}",))
-
-
-def stamp(value: object) -> Iterator[str]:
-    """Yield what is wrong with a stamp."""
-    try:
-        read_stamp(cast(Json, value))
-    except Malformed as fault:
-        yield str(fault)
 
 
 PLACES = ("first index", whole), ("last index", whole), ("from", whole), ("to", whole_or_none)
@@ -95,6 +88,13 @@ class CommandFields:
             raise not_a_command(f"`{name}`: {'; '.join(named)}")
         return value
 
+    def _read(self, name: str, read: Callable[[Json], T]) -> T:
+        """Return a field as a reader of operations returns it."""
+        try:
+            return read(self.require(name))
+        except Malformed as fault:
+            raise not_a_command(f"`{name}`: {fault}") from None
+
     def whole(self, name: str, least: int = 0, most: int = GREATEST, default: int | None = None) -> int:
         if default is not None and not self.has(name):
             return default
@@ -150,25 +150,18 @@ class CommandFields:
 
     def stamp_or_key(self, name: str) -> Stamp | str:
         """Return a stamp, or the key of a gesture whose stamp the tab may not know yet."""
-        if type(self.require(name)) is str:
-            return self.key(name)
-        return read_stamp(self._checked(name, stamp))
+        return self.key(name) if type(self.require(name)) is str else self._read(name, read_stamp)
 
     def stamps(self) -> set[Stamp] | None:
-        if not self.has("stamps"):
-            return None
-        return {read_stamp(one) for one in cast("list[Json]", self._checked("stamps", list_of(stamp, "stamp")))}
+        return {*self._read("stamps", list_of(read_stamp))} if self.has("stamps") else None
 
     def site(self) -> str:
         """Return the name of a site."""
-        try:
-            return read_site(self.require("site"))
-        except Malformed as fault:
-            raise not_a_command(f"`site`: {fault}") from None
+        return self._read("site", read_site)
 
     def pairs(self, name: str) -> list[tuple[int, int]]:
         """Return a field that is a list of pairs of whole numbers."""
-        return [(one, other) for one, other in cast("list[list[int]]", self._checked(name, list_of(PAIR, "pair")))]
+        return [(one, other) for one, other in cast("list[list[int]]", self._checked(name, faults_of_list(PAIR, "pair")))]
 
     def shape(self) -> Shape:
         named = self.require("shape")

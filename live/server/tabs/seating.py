@@ -14,10 +14,9 @@ import secrets
 import time
 from typing import Callable, TypedDict
 
-from ..journal.keeper import A_MOMENT, SHARED, Keeper, NotKept
+from ..journal.keeper import A_MOMENT, SHARED, Keeper, NotKept, wait_until_written
 from ..journal.records import SeatFreed, SeatGiven, SeatUsed
 from ..journal.state import SeatReplica, State
-from ..journal.writing import wait_until_written
 from ..model.operations import SEATS
 from ..model.reading import LONGEST_NAME, clean_text
 from .asked import fold_look_alikes
