@@ -228,7 +228,7 @@ class Gate(Case):
                 self.assertTrue((await again.ask(1, "gesture", key="f", shape=["limit", 2, 2, 10, None, 3]))["again"])
                 bus = Bus()
                 site = bus.site(again)
-                site._send_unreturned()
+                site.send_shared()
                 sent = [one for message in bus.sent if message.topic.endswith("operations")
                         for one in json.loads(message.payload.partition(b"\n")[2])["operations"]]
                 self.assertEqual([one.get("note") for one in sent], ["first", "third", "d", "e"])

@@ -56,7 +56,7 @@ class KeptRoad:
         return self._keeper.road(self._index)
 
     async def say_all(self, lines: list[bytes], times: Times) -> list[bytes]:
-        return await self._keeper.say_all(lines, times)
+        return await self._keeper.program.say_all(lines, times)
 
     async def advance(self, to: int) -> int:
         wanted = self._keeper.target_steps
@@ -76,75 +76,51 @@ class Preview:
         self.used = time.monotonic()
         self.when_idle: Callable[[], None] = lambda: None  # called after each answer
         self._is_over = False
-        self._program: Program | None = None
-        self._fed = dict.fromkeys(SIDES, 0)
-        self._wanted = dict.fromkeys(SIDES, 0)
-        self._lock = asyncio.Lock()
-
-    @property
-    def has_program(self) -> bool:
-        return self._program is not None
-
-    @property
-    def is_idle(self) -> bool:
-        """Return whether it answers no query at present."""
-        return not self._lock.locked()
+        self.program: Program | None = None
+        self._fed = set[str]()  # the sides whose edits the program has
+        self.target_steps = dict.fromkeys(SIDES, 0)  # the step up to which each side shall be simulated
+        self.answering = asyncio.Lock()
 
     async def prepare_program(self, side: str) -> Program:
         """Return its program, when that has the edits of a side and has simulated it as far as it shall."""
         self.used = time.monotonic()
-        program = self._program or await self._start_program()
+        program = self.program or await self._start_program()
         lines = [to_json(line).encode() for line in import_lines(side, self.edits[side])]
-        if lines and not self._fed[side]:
+        if lines and side not in self._fed:
             await program.ask_all(lines)
-            self._fed[side] = 1
-        while await program.advance(side, self._wanted[side]) < self._wanted[side]:
+            self._fed.add(side)
+        while await program.advance(side, self.target_steps[side]) < self.target_steps[side]:
             await asyncio.sleep(0)
         return program
 
     async def _start_program(self) -> Program:
         """Start its program. Raise `ProgramExited` if the preview was dropped in the meantime."""
-        if self._is_over:
-            raise ProgramExited(LET_GO)
         plan: dict[str, object] = {**self._keeper.state.plan, "replicas": list(SIDES)}
         program = await start(command_of(self._keeper.path, plan), to_json(plan).encode())
         if self._is_over:
             program.kill()
             raise ProgramExited(LET_GO)
-        self._program = program
+        self.program = program
         return program
 
     async def run_job(self, side: str, body: Job[T]) -> T:
         try:
-            async with self._lock:
-                return await self._run_in_turn(side, body)
-        finally:
-            self.when_idle()
-
-    async def _run_in_turn(self, side: str, body: Job[T]) -> T:
-        try:
-            await self.prepare_program(side)
-            while isinstance(said := await body(), More):
-                pass
-            return said
+            async with self.answering:
+                await self.prepare_program(side)
+                while isinstance(said := await body(), More):
+                    pass
+                return said
         except ProgramExited as fault:
             self.close()
             raise no_preview() from fault
-
-    async def say_all(self, lines: list[bytes], times: Times) -> list[bytes]:
-        """Send lines all at once and return the program's replies; raise the first refusal. To be called in a job."""
-        if self._program is None:
-            raise ProgramExited(LET_GO)
-        return await self._program.say_all(lines, times)
-
-    def run_to(self, side: str, to: int) -> None:
-        self._wanted[side] = max(to, self._wanted[side])
+        finally:
+            self.when_idle()
 
     def close(self) -> None:
         """End its program. The next query starts a new one."""
-        if self._program is not None:
-            self._program.kill()
-        self._program, self._fed = None, dict.fromkeys(SIDES, 0)
+        if self.program is not None:
+            self.program.kill()
+        self.program, self._fed = None, set[str]()
 
     def end(self) -> None:
         """End its program for good."""
@@ -170,10 +146,13 @@ class Side:
         return None
 
     async def say_all(self, lines: list[bytes], times: Times) -> list[bytes]:
-        return await self._preview.say_all(lines, times)
+        if self._preview.program is None:
+            raise ProgramExited(LET_GO)
+        return await self._preview.program.say_all(lines, times)
 
     async def advance(self, to: int) -> int:
-        self._preview.run_to(self.name, to)
+        targets = self._preview.target_steps
+        targets[self.name] = max(to, targets[self.name])
 
         async def body() -> int:
             return to
@@ -197,8 +176,8 @@ class Previews:
 
     def _end_programs(self) -> None:
         """End the programs of previews that were not used for longest and answer no query, if too many have one."""
-        running = [one for one in self._of.values() if one.has_program]
-        idle = sorted((one for one in running if one.is_idle), key=lambda one: one.used)
+        running = [one for one in self._of.values() if one.program is not None]
+        idle = sorted((one for one in running if not one.answering.locked()), key=lambda one: one.used)
         for one in idle[:max(0, len(running) - MOST_PREVIEWS)]:
             one.close()
 
