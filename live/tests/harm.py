@@ -13,7 +13,7 @@ from faulty import Bus, Here, message_of, soon, told, written
 from oracle import all_edits
 from running import ALL, LIVE, SMALL, Case
 from server.tabs import verbs
-from server.tabs.asked import CommandFields
+from server.tabs.fields import CommandFields
 from server.tabs.refusals import NAMES, OF_THE_FORMAT, Refused
 from server.model.operations import About, Shape, put
 from server.roads.screen import rows_of

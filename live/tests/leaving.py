@@ -16,7 +16,7 @@ from server.tabs.refusals import Refused
 from server.model.operations import About, Operation, Shape, exclude, put
 from server.roads.screen import rows_of
 from server.journal.state import State
-from server.journal.records import read_plan_line
+from server.journal.entries import read_plan_line
 
 CELLS, STEPS = range(50, 56), range(0, 30, 5)
 
@@ -50,7 +50,7 @@ class LeftOut(Case):
         self.names = [here.lab.state.site for here in self.here]
         for here in self.here:
             await here.join(f"of site {here.site}")
-            await here.lab.timing.set_clock(to=100)
+            await here.lab.road_clock.set_clock(to=100)
 
     async def shape(self, place: int, *shape: Any, **more: Any) -> Any:
         """Make a gesture at a site, and share it."""

@@ -11,7 +11,7 @@ from typing import Any, Callable, Iterable, Mapping
 from server.model.operations import Operation, Shape, Stamp
 from server.model.projection import Edits, difference
 from server.model.road import Road
-from server.journal.records import read_plan_line
+from server.journal.entries import read_plan_line
 from server.journal.state import plan_value
 
 Values = dict[tuple[str, int], list[Any]]

@@ -23,7 +23,7 @@ import unittest
 from pathlib import Path
 from typing import Any, Awaitable, Callable, Iterator
 
-from server.tabs.client import Seat
+from server.shell.client import Seat
 from server.background.watch import SAID, Watch
 from working import is_too_long
 from zegdrut import program_path

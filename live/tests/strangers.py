@@ -17,8 +17,8 @@ from running import SMALL, Case, new_folder
 from server.sites import peers, seals
 from server.sites.floods import Floods
 from server.sites.peers import Peers
-from server.journal.copies import move_to_new_site
-from server.journal.journal import CannotStart
+from server.shell.new_site import move_to_new_site
+from server.journal.journal_lines import CannotStart
 from server.journal.naming import Counter
 from server.model.operations import About, Operation, Shape, Stamp, lift, put, undo
 from server.model.reading import Malformed, read_operation
@@ -537,7 +537,7 @@ class Keys(Case):
     def road(self, here: Here) -> list[tuple[Stamp, bool]]:
         """Return the operations of the shared road, and whether each counts."""
         road = here.lab.state.shared.road
-        return [(one.stamp, road.record.counts(one)) for one in sorted(here.lab.state.shared.places)]
+        return [(one.stamp, road.operations.counts(one)) for one in sorted(here.lab.state.shared.places)]
 
     async def test_only_sealed_messages_are_taken(self) -> None:
         await self.share(50)

@@ -12,7 +12,7 @@ from unittest import mock
 from faulty import Here
 from running import HELD_UP, Case, Watched, is_of_server, until
 from working import takes_at_most
-from server.tabs.client import Seat
+from server.shell.client import Seat
 from server.journal.keeper import Keeper
 from server.model.operations import About, Shape, put
 from server.model.road import Road

@@ -1,6 +1,6 @@
 """Run work that takes seconds to minutes in child processes of low priority, so that editing stays fast.
 
-    child = Child("server.figures.curves", nice=8)
+    child = Child("server.figures.admission", nice=8)
     curve = await child.ask(inlet, path)        in the server; `path` is that of road_lab
 
     serve(measure)                              in the child, the module: `measure(question)` yields results
@@ -20,7 +20,7 @@ from typing import AsyncIterator, Callable, Generic, Iterable, Mapping, TypeVar
 
 from .. import LIVE
 from ..background.settings import Settings
-from ..journal.journal import to_json
+from ..journal.journal_lines import to_json
 from ..roads.program import LONGEST_REPLY, command_ending_with_parent
 from ..tabs.refusals import Refused
 

@@ -6,7 +6,7 @@
     await journal.write({"clock": ..})     returns once the entry is on the disk; one sync serves all that wait
     await journal.wait_until_written()     returns once all entries written so far are on the disk
 
-The module `entries` defines the lines.
+The module `journal_lines` defines the lines.
 """
 from __future__ import annotations
 
@@ -24,9 +24,7 @@ import time
 from pathlib import Path
 from typing import Callable, Iterable, Iterator, ParamSpec
 
-from .entries import JOURNAL as JOURNAL, CannotStart as CannotStart, CorruptJournal as CorruptJournal, Entries as Entries
-from .entries import JournalLine as JournalLine, form_of as form_of
-from .entries import journal_line as journal_line, to_json as to_json, read_entries as read_entries
+from .journal_lines import JOURNAL, CannotStart, JournalLine, journal_line, read_entries, to_json
 
 WRITTEN_AT_ONCE = 1_000
 ROOM = 262_144  # bytes that must fit on the disk before it counts as writable; no gesture is longer
@@ -44,7 +42,7 @@ class NotWritten(Exception):
     """An entry could not be written to the disk."""
 
 
-class Displaced(OSError):
+class DisplacedJournal(OSError):
     """The journal of a running server was moved away, removed or replaced."""
 
     def __init__(self, path: Path) -> None:
@@ -53,7 +51,7 @@ class Displaced(OSError):
 
 def explain_fault(fault: OSError) -> str:
     """Return why an entry was not written, as a sentence."""
-    return str(fault.strerror) if isinstance(fault, Displaced) else f"the disk does not accept writes ({fault.strerror})"
+    return str(fault.strerror) if isinstance(fault, DisplacedJournal) else f"the disk does not accept writes ({fault.strerror})"
 
 
 @contextlib.contextmanager
@@ -311,13 +309,13 @@ class Journal:
         self.size += len(data)
 
     def _require_in_place(self) -> None:
-        """Raise `Displaced` if the journal's path does not name the file that this server writes."""
+        """Raise `DisplacedJournal` if the journal's path does not name the file that this server writes."""
         try:
             is_in_place = os.path.samestat(os.stat(self.path), os.fstat(self._file))
         except (FileNotFoundError, NotADirectoryError):
             is_in_place = False
         if not is_in_place:
-            raise Displaced(self.path)
+            raise DisplacedJournal(self.path)
 
     def _cut(self) -> None:
         os.ftruncate(self._file, self.size)

@@ -26,9 +26,10 @@ from ..roads.program import ProgramExited, Program, Times, command_of, start
 from ..roads.screen import Differences, Screen
 from ..roads.turns import MORE, Job, More, Turns
 from ..tabs.refusals import Refused
-from .journal import CannotStart, CorruptJournal, Entries, JournalLine, Journal, NotWritten, explain_fault, to_json
+from .entries import JOURNAL_FORM, Clock, Entry, Folder, OwnOperation, read_plan_line, write_entry
+from .journal import Journal, NotWritten, explain_fault
+from .journal_lines import CannotStart, CorruptJournal, Entries, JournalLine, to_json
 from .naming import Counter, is_called, new_site
-from .records import JOURNAL_FORM, Clock, Entry, Folder, Made, read_plan_line, write_entry
 from .state import NO_PLAN, State
 
 MOST_UNDOABLE = 20  # newest private operations of a seat, which are never forgotten
@@ -116,7 +117,7 @@ class Keeper:
         return is_new
 
     def supervise(self, what: str, run: Callable[[], Awaitable[object]]) -> None:
-        """Run a task until the server is closed. If it ends, people are told, and it is started again."""
+        """Run a task until the server is closed. If it ends, tell people, and start it again."""
         self.tasks.append(supervise(what, run, self.listeners.ended.notify))
 
     async def compact(self) -> None:
@@ -166,7 +167,7 @@ class Keeper:
         """Apply an entry to the state at once, and write it. The future is done when the entry is on the disk."""
         self._check_disk()
         entry.apply(self.state)
-        if isinstance(entry, Made):
+        if isinstance(entry, OwnOperation):
             one = entry.operation
             self.undo_count += one.undoes is not None or one.withdraws
         upto = self.state.shared.size

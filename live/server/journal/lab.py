@@ -10,22 +10,22 @@ import time
 from dataclasses import dataclass, replace
 from typing import Awaitable, Callable, Mapping, TypedDict, TypeVar, Union
 
-from ..model.changes import line_of
 from ..model.choices import find_overruling, sendable, find_undoable, would_change
 from ..model.demands import kept_demand, written_demand
+from ..model.lines import line_of
 from ..model.operations import About, Json, Operation, Shape, Stamp, exclude, lift, put, undo
 from ..model.reading import Malformed
 from ..model.road import Road, change, repeat
 from ..roads.program import Times
 from ..roads.screen import first_step
-from ..tabs.lines import Act, Lister
+from ..tabs.change_list import ListedOperation, Lister
 from ..tabs.refusals import Refused
 from ..tabs.seating import Seating
 from .checks import Checks
+from .entries import Arrival, Acknowledgement, OwnOperation, Share, Take, Works
 from .keeper import SHARED, Keeper, wait_until_written
-from .records import Came, CameBack, Made, Share, Take, Works
+from .road_clock import RoadClock
 from .state import Replica, SeatReplica, State
-from .timing import Timing
 
 MOST_IN_TAKE = 200  # operations in the reply to a take
 LOOKED_AT = 500  # operations that are looked at for news
@@ -34,16 +34,16 @@ MOST_BLOCKED = 5  # operations that undo skips, in a reply
 
 ReplyFields = Mapping[str, object]
 """The fields of a reply to a tab."""
-NewsReply = TypedDict("NewsReply", {"size": int, "from": "list[str]", "shares": "list[dict[str, Json]]", "changes": "list[Act]"})
+NewsReply = TypedDict("NewsReply", {"size": int, "from": "list[str]", "shares": "list[dict[str, Json]]", "changes": "list[ListedOperation]"})
 Done = asyncio.Future[None]
 """An entry that is being written. It is done once the entry is on the disk."""
-Called = Union[Stamp, str]  # a stamp, or the key of an operation of the seat
+StampOrKey = Union[Stamp, str]  # a stamp, or the key of an operation of the seat
 T = TypeVar("T")
 
 
 @dataclass(frozen=True)
 class Author:
-    """Who makes an operation: the seat, the operation's count, and its author, note, time and site."""
+    """The seat that makes an operation, the count of the operation, and its author, note, time and site."""
 
     seat: SeatReplica
     count: int
@@ -58,7 +58,7 @@ class Lab:
 
     def __init__(self, keeper: Keeper) -> None:
         self.keeper = keeper
-        self.seating, self.timing = Seating(keeper), Timing(keeper)
+        self.seating, self.road_clock = Seating(keeper), RoadClock(keeper)
         self._pending: dict[tuple[int, str], Done] = {}  # by seat and key: entries that are being written
 
     async def open(self, plan: Callable[[], Mapping[str, Json]], site: str | None) -> bool:
@@ -81,7 +81,7 @@ class Lab:
             if self.keeper.journal.fault is not None:
                 continue
             rounds += 1
-            self.timing.save()
+            self.road_clock.save()
             if rounds % 10 == 0 or settings.day < 60:
                 self.seating.free_unused()
 
@@ -92,20 +92,20 @@ class Lab:
         of the road's file."""
         return put(by.count, shape, replace(by.about, more=written_demand(demand, is_planned)))
 
-    def change_line(self, by: Author, called: Called, shape: Shape | None, top: bool, demand: float | None = None) -> Operation:
+    def change_line(self, by: Author, called: StampOrKey, shape: Shape | None, top: bool, demand: float | None = None) -> Operation:
         """Change the shape of a line, or withdraw the line if `shape` is None. It keeps its height unless `top` is true."""
         road, line = by.seat.road, self._find_line(by.seat, called)
         said = demand if demand is not None or shape is None else kept_demand(road, line, shape)
         return change(road, by.count, line, shape, top, replace(by.about, more=written_demand(said)))
 
-    def lift_line(self, by: Author, called: Called) -> Operation:
+    def lift_line(self, by: Author, called: StampOrKey) -> Operation:
         """Put a line on top, with its present shape."""
         return lift(by.count, self._find_line(by.seat, called), by.about)
 
-    def undo(self, by: Author, called: Called) -> Operation:
+    def undo(self, by: Author, called: StampOrKey) -> Operation:
         """Undo an operation."""
         undone = self._find_operation(by.seat, called)
-        root = by.seat.road.record.root_of(undone)
+        root = by.seat.road.operations.root_of(undone)
         if root.excludes is not None and root.site != self.state.site:
             raise Refused("NothingToUndo", f"only site {root.site} can undo its own exclusion of site {root.excludes[0]}: include "
                           "that site again instead")
@@ -113,7 +113,7 @@ class Lab:
             raise Refused("NothingToUndo", self._why_nothing(by.seat, undone))
         return undo(by.count, undone, by.about)
 
-    def put_again(self, by: Author, called: Called) -> Operation:
+    def put_again(self, by: Author, called: StampOrKey) -> Operation:
         """Repeat what an operation did to its line, on top of all."""
         old = self._find_operation(by.seat, called)
         again = repeat(by.seat.road, by.count, old, replace(by.about, note=old.about.note, more=old.about.more))
@@ -127,7 +127,7 @@ class Lab:
             raise Refused("OwnSite", f"site {site} cannot exclude itself: another site must do it")
         return exclude(by.count, site, out, by.about)
 
-    def _find_operation(self, seat: SeatReplica, called: Called) -> Operation:
+    def _find_operation(self, seat: SeatReplica, called: StampOrKey) -> Operation:
         """Return an operation that the seat holds, given its stamp or its key."""
         stamp = seat.done.get(called) if isinstance(called, str) else called
         if stamp is None:
@@ -137,7 +137,7 @@ class Lab:
             raise Refused("NoSuchChange", f"this seat holds no change with the stamp {list(stamp)}: if it is somebody else's, `take` first")
         return held
 
-    def _find_line(self, seat: SeatReplica, called: Called) -> Stamp:
+    def _find_line(self, seat: SeatReplica, called: StampOrKey) -> Stamp:
         """Return the name of a line of the seat's list. `called` is that name, or an operation that changed the line."""
         if isinstance(called, tuple) and seat.road.setters_of(called):
             return called
@@ -148,12 +148,12 @@ class Lab:
 
     def _why_nothing(self, seat: SeatReplica, one: Operation) -> str:
         """Return why the undo of an operation would change nothing."""
-        record = seat.road.record
-        if one.site in record.excluded:
+        operations = seat.road.operations
+        if one.site in operations.excluded:
             return f"site {one.site} is excluded, so this change has no effect already"
         by = [other for other in find_overruling(seat.road, one) if other is not one]
-        if not record.counts(one):
-            by = [other for other in record.undos_of(one) if record.counts(other)]
+        if not operations.counts(one):
+            by = [other for other in operations.undos_of(one) if operations.counts(other)]
             return f"{' and '.join(sorted({other.about.who for other in by}))} undid this change already"
         later = sorted({other.about.who for other in by if other.undoes is None})
         return f"{' and '.join(later)} changed its line since" if later else "nothing of this change is in force any more"
@@ -168,7 +168,7 @@ class Lab:
             await self.keeper.require_writable()
             before, version = seat.road, self._list_version(seat)
             one = self._new_operation(seat, note, make_operation)
-            done = self._pending[index, key] = self.keeper.record(Made(index, one, key))
+            done = self._pending[index, key] = self.keeper.record(OwnOperation(index, one, key))
             done.add_done_callback(lambda _: self._pending.pop((index, key), None))
             touched = await self._first_difference(before, seat.road)
             return {"stamp": one.stamp, "touched": touched, **self.list_of(seat, version)}, done
@@ -181,10 +181,10 @@ class Lab:
             one = self.read(make_operation(by).written())
         except Malformed as fault:
             raise Refused(fault.refusal, str(fault)) from None
-        if one.site in seat.road.record.excluded and one.excludes is None:
+        if one.site in seat.road.operations.excluded and one.excludes is None:
             raise Refused("SiteExcluded", "this site is excluded: changes made here have no effect until another site includes it again")
         after = seat.road.adding([one])
-        if after.layers == seat.road.layers and after.record.excluded == seat.road.record.excluded:
+        if after.layers == seat.road.layers and after.operations.excluded == seat.road.operations.excluded:
             raise Refused("NoEffect", self._why_no_effect(one))
         return one
 
@@ -291,7 +291,7 @@ class Lab:
                 return (False, None), None
             await self.keeper.require_writable()
             before, began = shared.road, time.thread_time()
-            done = self.keeper.record(Came(fresh, fresh[0].about.who, title, int(time.time()), is_unsent=False))
+            done = self.keeper.record(Arrival(fresh, fresh[0].about.who, title, int(time.time()), is_unsent=False))
             await shared.catch_up()
             touched = await self._first_difference(before, shared.road)
             times["work"] = time.thread_time() - began
@@ -309,4 +309,4 @@ class Lab:
 
     async def acknowledge(self, stamps: list[Stamp]) -> None:
         """Note that these operations came back from the broker, so they need not be sent again."""
-        await wait_until_written(self.keeper.record(CameBack(stamps)), {})
+        await wait_until_written(self.keeper.record(Acknowledgement(stamps)), {})

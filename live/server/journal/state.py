@@ -15,15 +15,15 @@ from typing import Iterable, Iterator, Mapping
 
 from zegdrut.program.wire import PlanLine
 
-from ..model.changes import all_lines, find_altered_lines, line_of, operations_on
 from ..model.choices import find_forgettable, shareable
+from ..model.lines import all_lines, find_altered_lines, line_of, operations_on
 from ..model.operations import SEATS, Operation, Stamp, Unreadable, intern_int
 from ..model.reading import Malformed
 from ..model.road import Road
-from .journal import CorruptJournal
-from .naming import Counter
-from .records import (JOURNAL_FORM, AllNews, Came, Clock, Entry, Fields, Folder, Keys, Made, News, SeatGiven, Take, Works,
+from .entries import (JOURNAL_FORM, NewsList, Arrival, Clock, Entry, Fields, Folder, Keys, OwnOperation, News, SeatGrant, Take, Works,
                       read_entry)
+from .journal_lines import CorruptJournal
+from .naming import Counter
 
 TAB_FORM = 6  # the protocol of tabs
 SITE_FORM = 4  # the protocol of sites
@@ -349,14 +349,14 @@ class State:
         yield Clock(self.rate, self.now, self.stop)
         for seat in self.seats[1:]:
             if seat.key:
-                yield SeatGiven(seat.index, seat.name, seat.key, seat.used)
+                yield SeatGrant(seat.index, seat.name, seat.key, seat.used)
         for one in self.shared.places:
             yield self._shared_entry(one)
-        yield AllNews(self.shares)
+        yield NewsList(self.shares)
         if self.works:
             yield Works(self.works)
         for seat in self.seats[1:]:
-            yield from (Made(seat.index, one) for one in self.private(seat))
+            yield from (OwnOperation(seat.index, one) for one in self.private(seat))
             if seat.upto:
                 yield Take(seat.index, seat.upto)
             if seat.done:
@@ -364,5 +364,5 @@ class State:
 
     def _shared_entry(self, one: Operation) -> Entry:
         if one in self.makers:
-            return Made(self.makers[one], one, is_shared=True, is_unsent=one in self.unsent, title=self.titles.get(one, ""))
-        return Came([one], title=self.titles.get(one, ""), is_unsent=one in self.unsent)
+            return OwnOperation(self.makers[one], one, is_shared=True, is_unsent=one in self.unsent, title=self.titles.get(one, ""))
+        return Arrival([one], title=self.titles.get(one, ""), is_unsent=one in self.unsent)

@@ -16,7 +16,7 @@ DEMAND, PLANNED = "demand", "planned"
 """The names of the fields of an operation: its demand in cars per hour; and whether that is the demand of the road's file."""
 MOST_DEMAND = 10_000.0  # cars per hour
 INFLOW = "inflow"
-Asked = Sequence[tuple[int, "float | None"]]
+DemandOverTime = Sequence[tuple[int, "float | None"]]
 """The demand of an inlet over time, as (step, cars per hour), each in force until the next; None if nobody has asked for one."""
 
 
@@ -57,12 +57,12 @@ def is_planned(done: Sequence[Operation]) -> bool:
     return len(done) == 1 and done[0].about.more.get(PLANNED) is True
 
 
-def asked_demands(road: Road, inlets: int) -> list[Asked]:
+def asked_demands(road: Road, inlets: int) -> list[DemandOverTime]:
     """Return the demand of each inlet over time, as far as it was asked for."""
     return [asked_demand(road, inlet) for inlet in range(inlets)]
 
 
-def asked_demand(road: Road, inlet: int) -> Asked:
+def asked_demand(road: Road, inlet: int) -> DemandOverTime:
     """Return the demand of an inlet over time, which is the demand of the topmost layer at each step."""
     found: list[tuple[int, float | None]] = []
     for begin, _, layer in split_by_topmost(road.on_object(INFLOW, inlet), 0, END):

@@ -19,7 +19,7 @@ from types import TracebackType
 from typing import TYPE_CHECKING, Callable, Deque, Iterator, Mapping, NamedTuple, Sequence
 
 from ..background.supervised import supervise
-from ..journal.journal import to_json
+from ..journal.journal_lines import to_json
 from ..journal.keeper import SHARED
 from ..journal.lab import Lab
 from ..journal.naming import is_far

@@ -9,13 +9,14 @@ from zegdrut.program.grammar import LAST_HORIZON
 
 from ..journal.keeper import SHARED
 from ..journal.lab import Author, Lab
+from ..journal.road_clock import FASTEST
 from ..journal.state import Replica
-from ..journal.timing import FASTEST
 from ..model.operations import Operation
 from ..model.reading import LONGEST_NOTE
 from ..roads.program import Times
-from ..roads.roads import SIDES, AskedRoad
-from .asked import CommandFields
+from ..roads.previews import SIDES
+from ..roads.roads import QueryRoad
+from .fields import CommandFields
 from .questions import Questions, Reply
 from .refusals import Refused, not_a_command
 
@@ -43,7 +44,7 @@ class Call:
         return self.lab.state.replica(SHARED if self.at == "shared" else self.index)
 
     @property
-    def road(self) -> AskedRoad:
+    def road(self) -> QueryRoad:
         return self.questions.road(self.index, self.at)
 
 
@@ -137,7 +138,7 @@ async def seats(call: Call) -> Reply:
 def clock(asked: CommandFields) -> Handler:
     rate = asked.number("rate", FASTEST) if asked.has("rate") else None
     to = asked.whole("to") if rate is None else None
-    return lambda call: call.lab.timing.set_clock(rate, to)
+    return lambda call: call.lab.road_clock.set_clock(rate, to)
 
 
 def admission(asked: CommandFields) -> Handler:

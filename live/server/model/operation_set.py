@@ -17,7 +17,7 @@ from .operations import Operation, Stamp, sort_by_stamp
 NO_OPERATIONS: frozenset[Operation] = frozenset()
 
 
-class Record:
+class OperationSet:
     """A set of operations, and which of them count."""
 
     def __init__(self) -> None:
@@ -28,9 +28,9 @@ class Record:
         self._undos: dict[Stamp, tuple[Operation, ...]] = {}  # undos by the stamp of the operation that they undo
         self._of_exclusions: frozenset[Stamp] = frozenset()  # exclusions, their undos, the undos of these undos, and so on
 
-    def copy(self) -> Record:
+    def copy(self) -> OperationSet:
         """Return a copy that can be changed without changing this one."""
-        other = Record()
+        other = OperationSet()
         other.held, other.void, other.excluded = dict(self.held), set(self.void), self.excluded
         other.exclusions, other._undos, other._of_exclusions = self.exclusions, dict(self._undos), self._of_exclusions
         return other
@@ -38,7 +38,7 @@ class Record:
     def __contains__(self, one: Operation) -> bool:
         return one.stamp in self.held
 
-    def operations(self) -> Iterator[Operation]:
+    def __iter__(self) -> Iterator[Operation]:
         return iter(self.held.values())
 
     def undos_of(self, one: Operation) -> tuple[Operation, ...]:
@@ -76,7 +76,7 @@ class Record:
         excluded = self.excluded_if()
         if excluded != self.excluded:
             changed, self.excluded = excluded ^ self.excluded, excluded
-            flipped ^= self._settle(sort_by_stamp(one for one in self.operations() if one.site in changed))
+            flipped ^= self._settle(sort_by_stamp(one for one in self if one.site in changed))
         return fresh, flipped
 
     def _hold(self, one: Operation) -> bool:

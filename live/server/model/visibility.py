@@ -55,7 +55,7 @@ def find_overruled(road: Road, line: Stamp) -> dict[Operation, Operation]:
     """Return the operations on a line that have lost to another one, each with the operation that won. They count, but a later change
     that was made without knowledge of them gives the line its shape. An undo has lost if a change that was based on the undone operation
     is in force. If a redo made such an operation count again, the redo has lost."""
-    counts = road.record.counts
+    counts = road.operations.counts
     setters = road.setters_of(line)
     by_stamp = {one.stamp: one for one in setters}
     known: set[Operation] = set()
@@ -68,12 +68,12 @@ def find_overruled(road: Road, line: Stamp) -> dict[Operation, Operation]:
              if counts(one) and one not in known and (gap is None or one.stamp > gap)}
     for one in known:
         below = by_stamp.get(one.seen) if one.seen is not None else None
-        found.update((each, one) for each in (road.record.undos_of(below) if below else ()) if counts(each))
+        found.update((each, one) for each in (road.operations.undos_of(below) if below else ()) if counts(each))
     return {last_redo(road, one): won for one, won in found.items()}
 
 
 def last_redo(road: Road, one: Operation) -> Operation:
     """Return the last redo that restored an operation, or the operation itself if nobody restored it."""
-    record = road.record
-    redos = [redo for undo in record.undos_of(one) for redo in record.undos_of(undo) if record.counts(redo)]
+    operations = road.operations
+    redos = [redo for undo in operations.undos_of(one) for redo in operations.undos_of(undo) if operations.counts(redo)]
     return last_redo(road, max(redos)) if redos else one

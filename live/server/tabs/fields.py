@@ -12,7 +12,7 @@ from typing import Callable, Iterator, Mapping, TypeVar, cast
 
 from zegdrut.program.grammar import GREATEST, Part, kind, list_of as faults_of_list, row_of, shown, value_of, whole
 
-from ..journal.journal import to_json
+from ..journal.journal_lines import to_json
 from ..model.demands import INFLOW, MOST_DEMAND
 from ..model.operations import CAPACITY, Capacity, Json, Shape, Stamp, intern_int
 from ..model.reading import Malformed, clean_text, list_of, read_site, read_stamp

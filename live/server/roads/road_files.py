@@ -16,7 +16,7 @@ from zegdrut.roads.clock import Clock
 from zegdrut.roads.demand import find_rate
 from zegdrut.roads.units import to_steps
 
-from ..journal.journal import CannotStart, to_json
+from ..journal.journal_lines import CannotStart, to_json
 from ..journal.lab import Lab
 from ..model.demands import INFLOW
 from ..model.operations import END, Json, Shape
@@ -31,7 +31,7 @@ DOING = " .."  # the end of a line that reports progress
 
 
 @dataclass(frozen=True)
-class Planned:
+class NewRoad:
     """A plan line, and the shapes that are shared from the start under `name`; each has the demand that its chance stands for, or None."""
 
     plan: Mapping[str, Json]
@@ -85,24 +85,24 @@ def is_freeway(value: Mapping[str, Json]) -> bool:
     return not OF_A_PLAN & value.keys()
 
 
-def read_road(path: Path, program: str) -> Planned:
+def read_road(path: Path, program: str) -> NewRoad:
     """Return the road in a file. Raise `CannotStart` if it cannot be read. For a freeway, measure the inflow chances that admit its
     demand, which takes some seconds. `program` is the path of road_lab."""
     value = read_plan(path)
     if not is_freeway(value):
-        return Planned(value)
+        return NewRoad(value)
     said = convert_freeway(path, program)
     try:
         shapes = [read_shape(one) for one in said["shapes"]]
         works: list[tuple[Shape, float | None]] = [(shape, None) for shape in shapes if shape.kind != INFLOW]
         chances = [int(chance) for _, chance in cast("list[list[int]]", said["plan"]["inlets"])]
-        return Planned(said["plan"], [*demand_shapes(chances, shapes, said["demands"]), *works],
+        return NewRoad(said["plan"], [*demand_shapes(chances, shapes, said["demands"]), *works],
                        clean_text(path.name, LONGEST_NAME) or "freeway")
     except Malformed as fault:
         raise CannotStart(f"{path}: {fault}") from None
 
 
-Converted = TypedDict("Converted", {
+ConvertedFreeway = TypedDict("ConvertedFreeway", {
     "plan": Mapping[str, Json], "shapes": Sequence[Json], "demands": Sequence["Sequence[tuple[int, float]]"]})
 """What the recipe prints for a freeway. `demands` has for each inlet its (step, cars per hour), each in force until the next."""
 
@@ -121,7 +121,7 @@ def demand_shapes(chances: Sequence[int], shapes: Sequence[Shape],
                     yield one._replace(begin=begin, end=end), find_rate(rates, begin)
 
 
-def convert_freeway(path: Path, program: str) -> Converted:
+def convert_freeway(path: Path, program: str) -> ConvertedFreeway:
     """Return the plan and the shapes of a freeway in km. Print how they differ from the file, as the recipe reports it."""
     said: list[str] = []
     command = [sys.executable, str(FREEWAY), "--plan", str(path.resolve())]
@@ -138,7 +138,7 @@ def convert_freeway(path: Path, program: str) -> Converted:
         raise CannotStart(f"{path} is neither a plan line nor a freeway in km: {' '.join(said[-1:])}")
     for line in said:
         print(line, file=sys.stderr, flush=True)
-    converted: Converted = json.loads(found)
+    converted: ConvertedFreeway = json.loads(found)
     return converted
 
 
@@ -152,7 +152,7 @@ def is_another(path: Path, plan: PlanLine, kept: Path) -> bool:
     return one != other
 
 
-async def share_works(lab: Lab, road: Planned) -> None:
+async def share_works(lab: Lab, road: NewRoad) -> None:
     """Put and share the shapes of a freeway's file, from a seat that is freed afterwards."""
     if not road.shapes:
         return

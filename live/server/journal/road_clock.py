@@ -8,15 +8,15 @@ from typing import Mapping
 from zegdrut.program.grammar import LAST_HORIZON
 
 from ..tabs.refusals import Refused
+from .entries import Clock
 from .keeper import A_MOMENT, SHARED, Keeper, wait_until_written
-from .records import Clock
 
 STEPS_AHEAD = 36_000  # steps that a replica may run ahead of the clock, and that the clock may be set forward
 FASTEST, FAST = 600, 60  # steps a second; above `FAST` the clock stops after an hour of the road
 HOUR = 3_600  # steps
 
 
-class Timing:
+class RoadClock:
     """Sets the clock, and saves it to the journal at intervals."""
 
     def __init__(self, keeper: Keeper) -> None:

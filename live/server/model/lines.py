@@ -1,4 +1,4 @@
-"""Make the list of changes: a line for each layer that somebody put, and one for each site that somebody excluded.
+"""Find the lines of the list of changes: one for each layer that somebody put, and one for each site that somebody excluded.
 
 A line, with the operations that belong to it, depends on the set of operations alone. `find_altered_lines` returns the lines that may
 differ between two roads, so that a list can be updated without listing all lines again.
@@ -16,7 +16,7 @@ from .road import Road
 def line_of(road: Road, one: Operation) -> Stamp:
     """Return the line that an operation belongs to. An undo belongs to the line of the operation that it undoes; one whose target is
     missing is a line of its own."""
-    root = road.record.root_of(one)
+    root = road.operations.root_of(one)
     if root.excludes is not None:
         return line_of_site(road, root.excludes[0]) or root.stamp
     return root.line or root.stamp
@@ -24,23 +24,23 @@ def line_of(road: Road, one: Operation) -> Stamp:
 
 def line_of_site(road: Road, site: str) -> Stamp | None:
     """Return the line of all exclusions of a site, which has the stamp of the oldest one; None if the site was never excluded."""
-    return next((one.stamp for one in road.record.exclusions if one.excludes is not None and one.excludes[0] == site), None)
+    return next((one.stamp for one in road.operations.exclusions if one.excludes is not None and one.excludes[0] == site), None)
 
 
 def all_lines(road: Road) -> set[Stamp]:
-    return {line_of(road, one) for one in road.record.operations()}
+    return {line_of(road, one) for one in road.operations}
 
 
 def operations_on(road: Road, line: Stamp) -> list[Operation]:
     """Return the operations on a line, the oldest first."""
-    record = road.record
+    operations = road.operations
     roots = {*road.changes_of(line)}
-    named = record.held.get(line)
+    named = operations.held.get(line)
     if named is not None:
-        roots.update(record.exclusions if named.excludes is not None else [named])
+        roots.update(operations.exclusions if named.excludes is not None else [named])
     found = [one for one in roots if line_of(road, one) == line]
     for one in found:
-        found += record.undos_of(one)
+        found += operations.undos_of(one)
     return sort_by_stamp(found)
 
 
@@ -49,11 +49,11 @@ def find_altered_lines(before: Road, after: Road) -> set[Stamp]:
     step = after.step
     if before is after:
         return set()
-    if step is None or step.before() is not before or before.record.excluded != after.record.excluded:
+    if step is None or step.before() is not before or before.operations.excluded != after.operations.excluded:
         return all_lines(before) | all_lines(after)
     lines = {line_of(after, one) for one in step.fresh | step.flipped}
     for one in step.fresh:  # an undo that waited for it had a line of its own, and an older exclusion may have named the line
-        lines |= {each.stamp for each in after.record.undos_of(one)}
+        lines |= {each.stamp for each in after.operations.undos_of(one)}
         named = None if one.excludes is None else line_of_site(before, one.excludes[0])
         lines |= set() if named is None else {named}
     names = changed_layers(before, after)

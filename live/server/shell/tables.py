@@ -17,10 +17,10 @@ from zegdrut.program.wire import PlanLine
 from zegdrut.roads.clock import Clock
 from zegdrut.roads.units import KMH, to_km
 
+from ..journal.journal_lines import JOURNAL, CannotStart, Entries, to_json
+from ..journal.state import NO_PLAN, State
 from ..model.operations import Json, Operation, Shape, Stamp, Unreadable, describe_act
-from ..roads import plans
-from .journal import JOURNAL, CannotStart, Entries, to_json
-from .state import NO_PLAN, State
+from ..roads import road_files
 
 Row = tuple["int | float | str | None", ...]
 SCHEMA = """
@@ -37,7 +37,7 @@ CREATE VIEW changes AS
 PERCENT = 100 / 65_536  # of a chance
 
 
-class Held(NamedTuple):
+class HeldOperation(NamedTuple):
     """An operation, whether it is shared, and the seat that made it, if that is known."""
 
     operation: Operation
@@ -50,7 +50,7 @@ class Tables(NamedTuple):
 
     plan: PlanLine
     clock: Clock
-    operations: Sequence[Held]
+    operations: Sequence[HeldOperation]
     seats: Sequence[Row]
     shares: Sequence[Row]
 
@@ -69,9 +69,9 @@ def read_folder(folder: Path) -> Tables:
     """Return all changes of a folder, which no server uses. Raise `CannotStart` if its journal cannot be read."""
     state = read_state(folder)
     held = dict.fromkeys([*state.shared.places, *(one for seat in state.seats for one in seat.own)])
-    operations = [Held(one, one in state.shared.places, state.makers.get(one)) for one in held if not isinstance(one, Unreadable)]
+    operations = [HeldOperation(one, one in state.shared.places, state.makers.get(one)) for one in held if not isinstance(one, Unreadable)]
     seats = [(seat.index, seat.name, len(seat.shareable())) for seat in state.seats[1:] if seat.key]
-    return Tables(state.plan, plans.clock_of(folder) or Clock(), operations, seats,
+    return Tables(state.plan, road_files.clock_of(folder) or Clock(), operations, seats,
                   [share_row(one.reply_fields()) for one in state.shares])
 
 
@@ -101,7 +101,7 @@ def write_rows(database: sqlite3.Connection, table: str, rows: Iterator[Row] | S
         database.execute(f"INSERT INTO {table} VALUES ({','.join('?' * len(row))})", row)
 
 
-def operation_row(held: Held, by_stamp: Mapping[Stamp, Operation]) -> Row:
+def operation_row(held: HeldOperation, by_stamp: Mapping[Stamp, Operation]) -> Row:
     one, about = held.operation, held.operation.about
     undone = None if one.undoes is None else by_stamp.get(one.undoes)
     return (stamp_text(one.stamp), one.stamp[0], one.site, held.seat, about.who, about.note, utc_text(about.when), describe_act(one, undone),

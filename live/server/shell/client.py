@@ -14,7 +14,7 @@ from typing import TYPE_CHECKING
 import aiohttp
 
 if TYPE_CHECKING:
-    from .frames import Frame, Welcome
+    from ..tabs.frames import Frame, Welcome
 
 LONGEST_ANSWER = 1 << 26  # bytes
 PATIENCE = 120.0  # seconds

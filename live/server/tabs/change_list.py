@@ -6,16 +6,16 @@ import time
 from typing import AbstractSet, Sequence, TypedDict
 
 from ..journal.state import Replica, SeatReplica, State
-from ..model.changes import operations_on
 from ..model.demands import demand_of, is_planned, stated_demand
+from ..model.lines import operations_on
 from ..model.operations import Operation, Shape, Stamp, describe_act
 from ..model.road import Road
-from ..model.seen import Rectangle, covered_rectangles, find_overruled, visible_rectangles
+from ..model.visibility import Rectangle, covered_rectangles, find_overruled, visible_rectangles
 
 SITE_KIND = "site"  # the kind of a line that excludes a site
 NO_OPERATIONS: frozenset[Operation] = frozenset()
 
-Act = TypedDict("Act", {
+ListedOperation = TypedDict("ListedOperation", {
     "stamp": Stamp, "who": str, "note": str, "when": float, "does": str, "shared": bool, "undoes": "Stamp | None", "lost": "Stamp | None",
     "idle": bool, "void": bool, "shape": "Shape | None", "demand": "float | None", "seat": int}, total=False)
 """What an operation did to a line, in the form of a reply. `lost` is the operation that won over this one; `seat` is the seat of this
@@ -23,7 +23,7 @@ server that made it, if one did."""
 Line = TypedDict("Line", {
     "name": Stamp, "gone": bool, "kind": "str | None", "shape": "Shape | None", "site": str, "who": str, "note": str, "when": float,
     "height": Stamp, "standing": bool, "shared": bool, "shown": Sequence[Rectangle], "covered": Sequence[Rectangle],
-    "operations": Sequence[Act], "was": "Sequence[Rectangle] | None", "demand": float, "planned": bool, "seat": int}, total=False)
+    "operations": Sequence[ListedOperation], "was": "Sequence[Rectangle] | None", "demand": float, "planned": bool, "seat": int}, total=False)
 """A line of a list, in the form of a reply. A line that is `gone` has only its name. `site` is the site that the line excludes or
 includes. `was` is what the line shows without the previewed change. `covered` says where a capacity no longer holds. `demand` is the
 demand that an inflow stands for, in cars per hour, if its author gave one; `planned` is true if that is the demand of the road's file."""
@@ -69,7 +69,7 @@ class Lister:
 
     def _is_standing(self, line: Stamp, done: list[Operation]) -> bool:
         site = self._excluded_by(done)
-        return line in self._road.layers if site is None else site in self._road.record.excluded
+        return line in self._road.layers if site is None else site in self._road.operations.excluded
 
     def _excluded_by(self, done: list[Operation]) -> str | None:
         """Return the site that a line excludes; None if it excludes none."""
@@ -87,17 +87,17 @@ class Lister:
         setter = self._road.setter(line)
         return None if setter is None else setter.shape
 
-    def operation(self, one: Operation, won: Operation | None = None) -> Act:
+    def operation(self, one: Operation, won: Operation | None = None) -> ListedOperation:
         """Return what an operation did, and who made it. `won` is the operation that won over it."""
-        about, does = one.about, describe_act(one, self._road.record.undone_by(one))
-        said: Act = {
+        about, does = one.about, describe_act(one, self._road.operations.undone_by(one))
+        said: ListedOperation = {
             "stamp": one.stamp, "who": about.who, "note": about.note, "when": about.when, "does": does, "shared": one in self._places,
             "undoes": one.undoes, "lost": None if won is None else won.stamp}
         if one in self._makers:
             said["seat"] = self._makers[one]
         if one in self._idle:
             said["idle"] = True
-        if not self._road.record.counts(one):
+        if not self._road.operations.counts(one):
             said["void"] = True
         if won is not None:
             said["shape"] = one.shape

@@ -18,7 +18,7 @@ from zegdrut.roads.units import KMH, to_cells, to_chance, to_km, to_limit
 from ..model.operations import Shape
 
 if TYPE_CHECKING:
-    from ..figures.curves import Curve
+    from ..figures.admission import Curve
 
 HOW = {"close": "FROM_KM TO_KM BEGIN [END]", "limit": "KMH FROM_KM TO_KM BEGIN [END]", "slowing": "PERCENT FROM_KM TO_KM BEGIN [END]",
        "slow-to-start": "PERCENT FROM_KM TO_KM BEGIN [END]", "demand": "CARS_PER_HOUR INLET_KM BEGIN [END]",

@@ -7,10 +7,11 @@ from __future__ import annotations
 import os
 from pathlib import Path
 
-from .export import read_state
-from .journal import JOURNAL, journal_lines, put_in_place, sync_folder
-from .naming import new_site
-from .records import write_entry
+from ..journal.entries import write_entry
+from ..journal.journal import journal_lines, put_in_place, sync_folder
+from ..journal.journal_lines import JOURNAL
+from ..journal.naming import new_site
+from .tables import read_state
 
 
 def move_to_new_site(folder: Path) -> str:

@@ -13,7 +13,7 @@ from typing import Iterator, Sequence, TypedDict
 from zegdrut.roads.demand import Drivers, Effort, Inlet, measure_admission
 from zegdrut.roads.units import ALWAYS
 
-from ..journal.journal import to_json
+from ..journal.journal_lines import to_json
 from . import child
 
 NICE = 8

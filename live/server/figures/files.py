@@ -10,7 +10,7 @@ from zegdrut.figures.trips import Window
 from zegdrut.program.wire import PlanLine, WrittenEdit
 from zegdrut.roads.units import to_km
 
-from ..journal.journal import to_json
+from ..journal.journal_lines import to_json
 from ..roads.program import command_of, import_lines, start
 from ..tabs.refusals import Refused
 from .figures import DetectorFigures
@@ -62,7 +62,7 @@ async def transcript(path: str, plan: PlanLine, lines: Iterable[Mapping[str, obj
     return pieces
 
 
-class Saved:
+class Transcripts:
     """The transcripts that seats fetch piece by piece: at most one for each seat, and a few in all."""
 
     def __init__(self, clock: Callable[[], float] = time.monotonic) -> None:
