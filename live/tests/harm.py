@@ -352,7 +352,7 @@ class Refusals(unittest.TestCase):
     def test_each_refusal_is_used_and_no_other(self) -> None:
         texts = [path.read_text() for path in (LIVE / "server").rglob("*.py")]
         used = {name for text in texts for name in re.findall(
-            r'(?:(?:Refused|_refuse_with_seats|super\(\).__init__)\(|Malformed\(f?"[^"]*",)\s*"([^"]+)"', text)}
+            r'(?:(?:Refused|_refuse_with_seats|super\(\).__init__)\(|Malformed\((?:f?"[^"]*"\s*)+,)\s*"([^"]+)"', text)}
         self.assertEqual(used - OF_THE_FORMAT, NAMES - OF_THE_FORMAT)
         for name in NAMES:
             self.assertRegex(name, r"^[A-Z][A-Za-z]+$")

@@ -43,10 +43,6 @@ def lines_to(plan: PlanLine, name: str, edits: Sequence[WrittenEdit], last: int)
     return at, [{**plan, "replicas": [at]}, *import_lines(at, edits), {"advance": {"at": at, "to": last}}]
 
 
-def format_lines(lines: Iterable[Mapping[str, object]]) -> str:
-    return "".join(to_json(line) + "\n" for line in lines)
-
-
 async def transcript(path: str, plan: PlanLine, lines: Iterable[Mapping[str, object]]) -> list[str]:
     """Return lines and a program's replies to them, alternating, in pieces. `path` is that of road_lab."""
     first, *others = map(to_json, lines)

@@ -197,7 +197,8 @@ class OwnOperation(Entry):
         seat, one = state.seats[self.seat], state.intern(self.operation)
         if self.is_shared:
             state.hold_shared([one], self.is_unsent, self.title)
-        state.hold_own(seat, one)
+        seat.own[one], state.makers[one] = None, seat.index
+        seat.hold([one])
         if self.key is not None:
             seat.done[self.key] = one.stamp
 

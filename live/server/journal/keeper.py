@@ -20,7 +20,7 @@ from zegdrut.program.grammar import LAST_HORIZON
 from ..background.listeners import Listeners
 from ..background.settings import Settings
 from ..background.supervised import supervise
-from ..model.operations import Json, Operation
+from ..model.operations import Json
 from ..model.road import Road
 from ..roads.program import ProgramExited, Program, Times, command_of, start
 from ..roads.screen import Differences, Screen
@@ -29,7 +29,7 @@ from ..tabs.refusals import Refused
 from .entries import JOURNAL_FORM, Clock, Entry, Folder, OwnOperation, read_plan_line, write_entry
 from .journal import Journal, NotWritten, explain_fault
 from .journal_lines import CannotStart, CorruptJournal, Entries, JournalLine, to_json
-from .naming import Counter, is_called, new_site
+from .naming import Counter, new_site
 from .state import NO_PLAN, State
 
 MOST_UNDOABLE = 20  # newest private operations of a seat, which are never forgotten
@@ -98,7 +98,7 @@ class Keeper:
         entries = Entries(path)
         self.state, is_new = self._read(entries)
         self.confirmed = self.state.shared.size
-        if not is_new and site is not None and not is_called(self.state.site, site):
+        if not is_new and site is not None and self.state.site.rpartition("-")[0] != site:
             raise CannotStart(f"{self.folder} belongs to site {self.state.site} for ever: start it without --site, or use a new folder")
         if is_new:
             own = new_site(site)
@@ -394,10 +394,6 @@ class Keeper:
             return await body()
         failures: set[int] = set()
         return self.turns.ask(turn, job, at_leisure, takes_long)
-
-    def is_confirmed(self, one: Operation) -> bool:
-        """Return whether a shared operation is on the disk."""
-        return self.state.shared.places.get(one, self.confirmed) < self.confirmed
 
     async def read_committed(self, look: Callable[[], Awaitable[T]], may_see: str = "all") -> T:
         """Return the result of `look` once all that it may have seen is on the disk. `may_see` says what it may have seen that is not yet

@@ -22,7 +22,7 @@ from ..tabs.change_list import ListedOperation, Lister
 from ..tabs.refusals import Refused
 from ..tabs.seating import Seating
 from .checks import Checks
-from .entries import Arrival, Acknowledgement, OwnOperation, Share, Take, Works
+from .entries import Arrival, OwnOperation, Share, Take
 from .keeper import SHARED, Keeper, wait_until_written
 from .road_clock import RoadClock
 from .state import Replica, SeatReplica, State
@@ -132,8 +132,8 @@ class Lab:
         stamp = seat.done.get(called) if isinstance(called, str) else called
         if stamp is None:
             raise Refused("NoSuchChange", f"this seat has made no change with the key {called}")
-        held = self.state.held_by(seat, stamp)
-        if held is None:
+        held = self.state.by_stamp.get(stamp)
+        if held is None or held not in seat.places:
             raise Refused("NoSuchChange", f"this seat holds no change with the stamp {list(stamp)}: if it is somebody else's, `take` first")
         return held
 
@@ -201,7 +201,8 @@ class Lab:
         """Return the first step from which two roads differ."""
         return first_step(await self.keeper.differences.between(before, after))
 
-    async def _write(self, turn: int, make: Callable[[], Awaitable[tuple[T, Done | None]]], times: Times, takes_long: bool | None = None) -> T:
+    async def _write(self, turn: int, make: Callable[[], Awaitable[tuple[T, Done | None]]], times: Times,
+                     takes_long: bool | None = None) -> T:
         """Call `make` in the turn of a seat, and return its result when the entry that it wrote, if any, is on the disk. The program gets
         the edits when it is next asked."""
         made, done = await self.keeper.ask(turn, (), make, takes_long=takes_long)
@@ -275,10 +276,6 @@ class Lab:
                 "shares": [one.reply_fields() for one in shares[-20:]],
                 "changes": [lister.operation(one) for one in fresh[-most:]]}
 
-    async def record_works(self) -> None:
-        """Let every new seat from now on start with all that is shared so far."""
-        await wait_until_written(self.keeper.record(Works(self.keeper.confirmed)), {})
-
     # What comes from other sites
 
     async def receive(self, operations: list[Operation], title: str, times: Times) -> bool:
@@ -306,7 +303,3 @@ class Lab:
     def read(self, written: Json) -> Operation:
         """Return an operation of a seat or of another site. Raise `Malformed` if it is not one that every site takes."""
         return self._checks.read(written)
-
-    async def acknowledge(self, stamps: list[Stamp]) -> None:
-        """Note that these operations came back from the broker, so they need not be sent again."""
-        await wait_until_written(self.keeper.record(Acknowledgement(stamps)), {})

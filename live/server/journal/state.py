@@ -269,11 +269,6 @@ class State:
         self._counter.hold(one.stamp[0])
         return self.by_stamp.setdefault(one.stamp, one)
 
-    def hold_own(self, seat: SeatReplica, one: Operation) -> None:
-        """Let a seat hold an operation of its own."""
-        seat.own[one], self.makers[one] = None, seat.index
-        seat.hold([one])
-
     def hold_shared(self, operations: Iterable[Operation], is_unsent: bool, title: str = "") -> list[Operation]:
         """Let the shared road hold operations. Return those that are new there."""
         fresh = self.shared.hold(operations)
@@ -313,11 +308,6 @@ class State:
     def unseen(self, seat: SeatReplica, upto: int | None = None) -> list[Operation]:
         """Return the shared operations that the seat has not taken and does not hold already."""
         return [one for one in self.shared.operations(seat.upto, upto) if one not in seat.places]
-
-    def held_by(self, seat: SeatReplica, stamp: Stamp) -> Operation | None:
-        """Return the operation with a stamp if the seat holds it."""
-        one = self.by_stamp.get(stamp)
-        return one if one in seat.places else None
 
     # Forgetting
 

@@ -140,8 +140,8 @@ def read_shape(value: Json) -> Shape:
     if shape.first > shape.last:
         raise Malformed(f"a shape's last {shape.kind}, {shape.last}, is before its first, {shape.first}", "NoObject")
     if shape.last - shape.first >= MOST_OBJECTS:
-        raise Malformed(f"a shape can cover at most {MOST_OBJECTS} objects, not {shape.last - shape.first + 1}: make several smaller shapes",
-                        "TooManyObjects")
+        raise Malformed(f"a shape can cover at most {MOST_OBJECTS} objects, not {shape.last - shape.first + 1}: make several "
+                        "smaller shapes", "TooManyObjects")
     if shape.end is not None and shape.end <= shape.begin:
         raise Malformed(f"a shape must end after step {shape.begin}, where it begins, not at {shape.end}", "Range")
     return shape

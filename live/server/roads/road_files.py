@@ -16,7 +16,9 @@ from zegdrut.roads.clock import Clock
 from zegdrut.roads.demand import find_rate
 from zegdrut.roads.units import to_steps
 
+from ..journal.entries import Works
 from ..journal.journal_lines import CannotStart, to_json
+from ..journal.keeper import wait_until_written
 from ..journal.lab import Lab
 from ..model.demands import INFLOW
 from ..model.operations import END, Json, Shape
@@ -161,7 +163,7 @@ async def share_works(lab: Lab, road: NewRoad) -> None:
         for number, (shape, demand) in enumerate(road.shapes):
             await lab.make(index, {}, f"plan {number}", "", lambda by: lab.put_shape(by, shape, demand, is_planned=demand is not None))
         await lab.share(index, {}, stamps=None, title="")
-        await lab.record_works()
+        await wait_until_written(lab.keeper.record(Works(lab.keeper.confirmed)), {})  # every new seat starts with what is shared so far
         await lab.seating.release_seat(index)
     except Refused as fault:
         raise CannotStart(f"{road.name}: {fault.why}") from None

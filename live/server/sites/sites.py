@@ -20,7 +20,8 @@ from typing import TYPE_CHECKING, Callable, Deque, Iterator, Mapping, NamedTuple
 
 from ..background.supervised import supervise
 from ..journal.journal_lines import to_json
-from ..journal.keeper import SHARED
+from ..journal.entries import Acknowledgement
+from ..journal.keeper import SHARED, wait_until_written
 from ..journal.lab import Lab
 from ..journal.naming import is_far
 from ..journal.state import SITE_FORM, State
@@ -223,7 +224,8 @@ class Sites:
 
     def _unreturned(self) -> list[Operation]:
         """Return the operations that are on the disk and that the broker has not returned."""
-        return [one for one in self._keeper.state.unsent if self._keeper.is_confirmed(one) and not isinstance(one, Unreadable)]
+        places, confirmed = self._keeper.state.shared.places, self._keeper.confirmed
+        return [one for one in self._keeper.state.unsent if places.get(one, confirmed) < confirmed and not isinstance(one, Unreadable)]
 
     def _announce_site(self) -> None:
         self._publish(SITES_TOPIC, {"site": self._keeper.state.site, "host": self._host, "road": self._road,
@@ -357,7 +359,7 @@ class Sites:
         unsent = self._keeper.state.unsent
         back = [one.stamp for one in map(self._keeper.state.intern, operations) if one in unsent]
         if back:
-            await self._lab.acknowledge(back)
+            await wait_until_written(self._keeper.record(Acknowledgement(back)), {})
             self._tell()
         return is_new or bool(back)
 

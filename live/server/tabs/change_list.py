@@ -48,7 +48,7 @@ class Lister:
         said: Line = {
             "name": line, "kind": self.kind(line, done), "shape": self.shape(line), "who": first.about.who,
             "note": first.about.note, "when": first.about.when, "height": road.height_of(line),
-            "standing": self._is_standing(line, done), "shared": done[-1] in self._places, "shown": self.shown(line),
+            "standing": self._is_standing(line, done), "shared": done[-1] in self._places, "shown": visible_rectangles(road, line),
             "operations": [self.operation(one, losses.get(one)) for one in done]}
         if first in self._makers:
             said["seat"] = self._makers[first]
@@ -63,9 +63,6 @@ class Lister:
         if is_planned(done):
             said["planned"] = True
         return said
-
-    def shown(self, line: Stamp) -> list[Rectangle]:
-        return visible_rectangles(self._road, line)
 
     def _is_standing(self, line: Stamp, done: list[Operation]) -> bool:
         site = self._excluded_by(done)

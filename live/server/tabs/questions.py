@@ -29,6 +29,7 @@ from ..model.lines import all_lines, find_altered_lines
 from ..model.operations import Json, Operation, Stamp, Unreadable
 from ..model.projection import Edits
 from ..model.road import Road
+from ..model.visibility import visible_rectangles
 from ..roads import rows
 from ..roads.program import LONG_ROAD, Times
 from ..roads.road_files import clock_of, name_of
@@ -301,12 +302,12 @@ class Questions:
                         added: set[Stamp]) -> list[Line]:
         """Return the lines that look different on the road `after`, or on which an added operation has lost, each with what it shows on
         the road `before`."""
-        now, then = (Lister(self._keeper.state, replica, road) for road in (before, after))
+        then = Lister(self._keeper.state, replica, after)
         listed = all_lines(before)
         found: list[Line] = []
         began = time.perf_counter()
         for line in sorted(find_altered_lines(before, after)):
-            said, was = then.line(line), now.shown(line)
+            said, was = then.line(line), visible_rectangles(before, line)
             if "gone" not in said and (said["shown"] != was or any(
                     one["lost"] and one["stamp"] in added for one in said["operations"])):
                 said["was"] = was if line in listed else None
@@ -420,5 +421,5 @@ class Questions:
         """Return the commands that make the same road, up to the clock."""
         to = self._keeper.now()
         name = "shared" if replica.at == "shared" else self._keeper.state.seats[replica.index].name or replica.at
-        edits = rows_of(await self._timeline(replica.road))
-        return {"lines": files.format_lines(files.lines_to(self._keeper.state.plan, name, edits, to)[1]), "to": to}
+        _, lines = files.lines_to(self._keeper.state.plan, name, rows_of(await self._timeline(replica.road)), to)
+        return {"lines": "".join(to_json(line) + "\n" for line in lines), "to": to}

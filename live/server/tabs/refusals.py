@@ -13,7 +13,6 @@ NAMES = frozenset({
 OF_THE_FORMAT = frozenset({
     "line too long", "not json", "not a command", "unknown form", "NoReplica", "NoMessage", "NameTaken", "NoObject", "Step",
     "ValueOutOfRange", "Count", "Insider", "CountsSpent", "Horizon", "NoDetector", "Range", "NotSimulated"})
-NOT_A_COMMAND = "not a command"
 
 
 class Refused(Exception):
@@ -32,4 +31,4 @@ class Refused(Exception):
 
 def not_a_command(why: str) -> Refused:
     """Return the refusal of a malformed command."""
-    return Refused(NOT_A_COMMAND, why)
+    return Refused("not a command", why)
