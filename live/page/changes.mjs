@@ -1,12 +1,12 @@
 // Which changes are own, which are not shared, which are not taken. It reads the store.
 
-import {findUndone, nextOf} from "./chain.mjs";
+import {findUndone, nextOf} from "./undo.mjs";
 import {privateOf} from "./layers.mjs";
-import {Words, newestFirst} from "./listing.mjs";
+import {Words, newestFirst} from "./changetexts.mjs";
 import {keyOf} from "./stamps.mjs";
 import {need, layersOf, layersShown, store} from "./store.mjs";
 
-/** @typedef {import("./chain.mjs").PendingAct} PendingAct */
+/** @typedef {import("./undo.mjs").PendingGesture} PendingGesture */
 /** @typedef {import("./types.mjs").Change} Change */
 /** @typedef {import("./types.mjs").Shape} Shape */
 
@@ -39,17 +39,17 @@ export const untaken = () => newestFirst([...layersOf("shared").changes.values()
 export const makers = (changes) => [...new Set(changes.flatMap(freshOf)
   .map(({who}) => who || "somebody"))];
 
-/** @returns {PendingAct[]} */
-const pendingActs = () => [...store.pending].map(([key, {does, undoes}]) => ({key, does, undoes}));
+/** @returns {PendingGesture[]} */
+const pendingGestures = () => [...store.pending].map(([key, {does, undoes}]) => ({key, does, undoes}));
 
 /** Return what Undo would undo and Redo would redo: a stamp, a key, null or undefined. */
-export const next = () => nextOf(store.layers.mine ?? {undo: null, redo: null}, pendingActs());
+export const next = () => nextOf(store.layers.mine ?? {undo: null, redo: null}, pendingGestures());
 
-/** Return the shapes of pending acts that no pending act undoes, and of demands that wait.
+/** Return the shapes of pending gestures that no pending gesture undoes, and of demands that wait.
  * @returns {Shape[]}
  */
 export function waitingShapes() {
-  const gone = findUndone(pendingActs());
+  const gone = findUndone(pendingGestures());
   const pending = [...store.pending].flatMap(([key, {shape}]) => (shape && !gone.has(key) ? [shape] : []));
   return [...pending, ...[...store.waiting.values()].map(({shape}) => shape)];
 }

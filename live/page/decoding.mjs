@@ -180,7 +180,7 @@ export const decodeFigures = ({figures, entries: {before, after}, ...wire}) => (
  */
 export const decodeDays = ({figures = [], ...wire}) => ({...wire, figures: figures.map(decodeRow)});
 
-/** Return the answer to an act.
+/** Return the answer to a gesture.
  * @param {WireAnswers["gesture"]} wire
  * @returns {Answers["gesture"]}
  */

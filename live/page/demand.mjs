@@ -1,7 +1,7 @@
 // Actions: ask what inlets admit, once for each state of the road upstream of them. Demands are in
 // cars per hour; the road has inflow chances.
 
-import {ask} from "./asking.mjs";
+import {ask} from "./questions.mjs";
 import {notify, store} from "./store.mjs";
 
 /** @typedef {import("./layers.mjs").Layers} Layers */

@@ -3,10 +3,10 @@
 
 import {boxSums} from "../../viewer/drawing.mjs";
 import {$, element, headCell, on, row, showList} from "./elements.mjs";
-import {exactOf, refreshFigures} from "./fetching.mjs";
+import {exactOf, refreshFigures} from "./loader.mjs";
 import {figureTable, wordsOf} from "./figuretable.mjs";
 import {countTrapped} from "./layers.mjs";
-import {setOpen} from "./looking.mjs";
+import {setOpen} from "./navigation.mjs";
 import * as messages from "./messages.mjs";
 import {placesText} from "./sentences.mjs";
 import {BOTH, need, layersOf, roadOf, store, watch, whoseShown} from "./store.mjs";

@@ -1,7 +1,7 @@
 // View: the tool with its values, and the form for typed values, which can do all that a drag does.
 
 import {words} from "./changes.mjs";
-import {applyForm, chooseTool, editInForm, followChangeInForm, writeField} from "./drafting.mjs";
+import {applyForm, chooseTool, editInForm, followChangeInForm, writeField} from "./draft.mjs";
 import {$, childrenOf, choose, chosen, on, oneOf} from "./elements.mjs";
 import {demandText} from "./formvalues.mjs";
 import {OF_ONE} from "./geometry.mjs";

@@ -1,9 +1,9 @@
 // View: who is here, the connection, the clock, messages and faults; and the question for a name.
 
 import {$, button, childrenOf, closest, element, on, showList} from "./elements.mjs";
-import {excludeSite} from "./acting.mjs";
-import {changeSeat, chooseSeat, closeNote, join} from "./joining.mjs";
-import {backToClock, setFollowing, lookAhead, runAnHour, setRate} from "./looking.mjs";
+import {excludeSite} from "./gestures.mjs";
+import {changeSeat, chooseSeat, closeNote, join} from "./session.mjs";
+import {backToClock, setFollowing, lookAhead, runAnHour, setRate} from "./navigation.mjs";
 import * as messages from "./messages.mjs";
 import {holdButton, need, now, releaseButton, store, watch} from "./store.mjs";
 import {plural} from "./units.mjs";
@@ -75,7 +75,7 @@ function showClock() {
   }
   const {stop} = store.clock;
   $("stop").textContent = stop ? `stops at ${store.day.timeText(stop)}` : "";
-  $("back").hidden = store.ahead <= now();
+  $("back").hidden = store.forecastEnd <= now();
 }
 
 /** Show whether the diagram follows the clock. */

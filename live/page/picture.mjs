@@ -9,10 +9,10 @@ import {BLOCKED, EMPTY, FASTER, FASTEST_COLOUR, INK, MARGIN, NO_ROW, OF_PLAN, SL
 import {assign} from "./assign.mjs";
 import {waitingShapes, wordsShown} from "./changes.mjs";
 import {$, choose, chosen, element, on, oneOf} from "./elements.mjs";
-import {finishDrawing, requestDrawing} from "./fetching.mjs";
+import {finishDrawing, requestDrawing} from "./loader.mjs";
 import {cellsOf} from "./geometry.mjs";
 import {dropDuplicates, placeOfLabel} from "./labels.mjs";
-import {SPANS, chooseSpan, paintBy, setPlotSize, showRoad, showWholeRoad, zoomBy} from "./looking.mjs";
+import {SPANS, chooseSpan, paintBy, setPlotSize, showRoad, showWholeRoad, zoomBy} from "./navigation.mjs";
 import {valueText} from "./sentences.mjs";
 import {keyOf} from "./stamps.mjs";
 import {isOwn, last, layersShown, need, now, roadOf, store, watch, whoseShown} from "./store.mjs";
@@ -135,7 +135,7 @@ function drawAhead(context, view, width, height) {
   context.lineTo(width, top);
   context.stroke();
   context.setLineDash([]);
-  if (store.ahead > now()) {
+  if (store.forecastEnd > now()) {
     write(context, "forecast, visible only to you", width - 12, top + 2, "right");
   }
 }

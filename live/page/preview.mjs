@@ -1,17 +1,17 @@
 // View: what sharing or taking would change, before it is done. Picture, sentences and table describe
 // the same two roads: before, and after.
 
-import {EMPTY_OUTCOME, closePreview, confirmPreview} from "./acting.mjs";
+import {EMPTY_OUTCOME, closePreview, confirmPreview} from "./gestures.mjs";
 import {freshOf, untaken, words} from "./changes.mjs";
 import {$, activeIn, button, element, findElement} from "./elements.mjs";
 import {figureTable, wordsOf} from "./figuretable.mjs";
-import {affectedBy, newestFirst, titlesOf} from "./listing.mjs";
-import {focusOnLists} from "./lists.mjs";
+import {affectedBy, newestFirst, titlesOf} from "./changetexts.mjs";
+import {focusOnLists} from "./changelists.mjs";
 import * as messages from "./messages.mjs";
 import {layersOf, store, watch} from "./store.mjs";
 import {plural} from "./units.mjs";
 
-/** @typedef {import("./listing.mjs").Words} Words */
+/** @typedef {import("./changetexts.mjs").Words} Words */
 /** @typedef {import("./types.mjs").Change} Change */
 /** @typedef {import("./types.mjs").Figures} Figures */
 /** @typedef {import("./types.mjs").Preview} Preview */

@@ -154,7 +154,7 @@ export class Road {
   }
 
   /** Load the level of every n-th step, so that its rows can be asked for, and return it. If there are
-   * too many levels, drop the one that was loaded longest ago. Only fetching.mjs does this.
+   * too many levels, drop the one that was loaded longest ago. Only loader.mjs does this.
    * @param {number} every    steps between rows
    */
   load(every) {

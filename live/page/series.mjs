@@ -3,8 +3,8 @@
 
 import {assign} from "./assign.mjs";
 import {$, element, on} from "./elements.mjs";
-import {askSeries, chooseEnd, chooseSite, exactOf, readPoint} from "./fetching.mjs";
-import {setOpen} from "./looking.mjs";
+import {askSeries, chooseEnd, chooseSite, exactOf, readPoint} from "./loader.mjs";
+import {setOpen} from "./navigation.mjs";
 import {need, store, watch} from "./store.mjs";
 import {MINUTE, kmText, whole} from "./units.mjs";
 

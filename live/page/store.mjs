@@ -7,7 +7,7 @@ import {HOUR} from "./units.mjs";
 /** @typedef {import("./geometry.mjs").Edge} Edge */
 /** @typedef {import("./layers.mjs").Layers} Layers */
 /** @typedef {import("./connection.mjs").Connection} Connection */
-/** @typedef {import("./listing.mjs").Listed} Listed */
+/** @typedef {import("./changetexts.mjs").Listed} Listed */
 /** @typedef {import("./rows.mjs").Road} Road */
 /** @typedef {import("./types.mjs").Area} Area */
 /** @typedef {import("./types.mjs").Change} Change */
@@ -78,7 +78,7 @@ import {HOUR} from "./units.mjs";
  * @property {DayClock} day            how its times are written
  * @property {{now: number, rate: number, stop: number | null}} clock   step, steps a second, and
  *   the step at which a fast clock stops
- * @property {number} ahead            the step to which the own road is computed ahead of the clock
+ * @property {number} forecastEnd      the step up to which the own road is shown ahead of the clock
  * @property {Partial<Record<RoadName, Road>>} roads     rows and sums
  * @property {Partial<Record<RoadName, Layers>>} layers  changes; a preview has those of `after`
  * @property {Map<"mine" | "shared", Refresh>} refreshes    questions for changes that are under way
@@ -160,7 +160,7 @@ export const store = {
   brokerText: "", sites: [], siteFaults: [], programNote: "", closedNote: "", trouble: "",
   replaced: {why: "", timer: undefined}, message: ["", false],
 
-  plan: null, day: new DayClock(), clock: {now: 0, rate: 0, stop: null}, ahead: 0, roads: {},
+  plan: null, day: new DayClock(), clock: {now: 0, rate: 0, stop: null}, forecastEnd: 0, roads: {},
   layers: {}, refreshes: new Map(), curves: new Map(),
 
   changes: [], news: {size: 0, shares: [], from: [], text: ""}, pending: new Map(),
@@ -273,7 +273,7 @@ export function tell(text, bad = false) {
 export const now = () => store.clock.now;
 
 /** Return the last step that the own road shows. */
-export const last = () => Math.max(store.clock.now, store.ahead);
+export const last = () => Math.max(store.clock.now, store.forecastEnd);
 
 /** Ask whether this tab's seat made a change.
  * @param {Pick<Change, "seat">} change

@@ -1,7 +1,7 @@
 // Tables as they are saved: a title in the first line, names and units in the second, then the rows;
 // of mine against the shared road, or of a road before and after.
 
-import {Words} from "./listing.mjs";
+import {Words} from "./changetexts.mjs";
 import {byStamp} from "./stamps.mjs";
 import {MINUTE, kmOf, plural, roundedKm} from "./units.mjs";
 

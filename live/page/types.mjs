@@ -42,7 +42,7 @@
 /**
  * What an operation does to a change.
  * @typedef {"put" | "change" | "withdraw" | "top" | "undo" | "redo" | "exclude"
- *           | "include"} Deed
+ *           | "include"} Effect
  */
 
 /**
@@ -52,7 +52,7 @@
  * @property {string} who
  * @property {string} note
  * @property {number} when            seconds since 1970; 0: not known
- * @property {Deed} does
+ * @property {Effect} does
  * @property {boolean} shared
  * @property {Stamp | null} [undoes]  the operation that it undoes
  * @property {Stamp | null} lost      the operation that was made at the same time and won
@@ -261,7 +261,7 @@
  */
 
 /**
- * The answer to an act: the operation's stamp, the first step at which the road differs, and how long
+ * The answer to a gesture: the operation's stamp, the first step at which the road differs, and how long
  * the parts of the server's work took, in microseconds.
  * @typedef {ListNews & {stamp: Stamp, touched: number | null, us?: Record<string, number>}} Done
  *

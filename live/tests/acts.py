@@ -9,7 +9,7 @@ from typing import Any
 
 from faulty import Bus, Here
 from figures_told import at_inlets, value
-from server.tabs.client import RefusedReply, Seat
+from server.shell.client import RefusedReply, Seat
 from server.tabs.refusals import Refused
 from server.model.operations import Stamp
 from running import SMALL, PATIENCE, Case, descendants, until
@@ -477,7 +477,7 @@ class Acts(Case):
                          ("NothingToUndo", f"only site {one.lab.state.site} can undo its own exclusion of site {ELSEWHERE}: include that "
                           "site again instead"))
         await one.ask(1, "undo", key="u", stamp="out")
-        self.assertEqual(one.lab.state.seats[1].road.record.excluded, frozenset())
+        self.assertEqual(one.lab.state.seats[1].road.operations.excluded, frozenset())
 
     async def test_an_excluded_site_may_exclude_and_include_sites_and_nothing_else(self) -> None:
         bus = Bus()
@@ -494,7 +494,7 @@ class Acts(Case):
             await two.ask(1, "gesture", key="a", shape=CLOSED)
         self.assertEqual(refused.exception.text, "SiteExcluded")
         await two.ask(1, "site", key="out", site=north, out=True)
-        self.assertEqual(two.lab.state.seats[1].road.record.excluded, {north})
+        self.assertEqual(two.lab.state.seats[1].road.operations.excluded, {north})
         await two.ask(1, "gesture", key="a", shape=CLOSED)
 
     async def test_what_need_not_be_shared_is_marked_in_its_line(self) -> None:

@@ -15,14 +15,14 @@ import time
 from pathlib import Path
 from typing import Any
 
-from server.tabs.client import Seat
+from server.shell.client import Seat
 from zegdrut import Edit, RoadLab
 from server.model.operations import Stamp
 from server.sites.peers import BrokerState
 from server.sites.seals import Seal
 from faulty import written
 from running import SMALL, Broker, Case, Server, end, new_folder, started, until
-from server.journal.records import read_plan_line
+from server.journal.entries import read_plan_line
 
 TOTALS = {"from": 0, "to": 100}
 TURNS = 6  # at most, to find out how long a gesture takes

@@ -17,7 +17,7 @@ from aiohttp import ClientError
 from crashes import PLAN, Engineer, numbers
 from running import ALL, PATIENCE, Case, Server, end, new_folder, until
 from server.model.operations import Stamp
-from server.tabs.client import RefusedReply, Seat
+from server.shell.client import RefusedReply, Seat
 
 ROUNDS, GESTURES = (20, 500) if ALL else (5, 50)
 WAYS = ("server_is_killed", "folder_is_restored", "broker_is_killed", "folder_is_cloned", "program_is_killed")

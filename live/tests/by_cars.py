@@ -63,7 +63,7 @@ class ByCars(Case):
             chance = random.Random(number)
             async with Here(plan=random_plan(chance)) as here:
                 seat, = await here.join("Ada")
-                await here.lab.timing.set_clock(to=STEPS)
+                await here.lab.road_clock.set_clock(to=STEPS)
                 shapes = random_shapes(here.plan, chance)
                 shared = chance.randrange(len(shapes) + 1)
                 for place, shape in enumerate(shapes):
@@ -121,7 +121,7 @@ class ByCars(Case):
         for shapes, asked, least, most in cases:
             async with Here(plan=plan) as here:
                 seat, = await here.join("Ada")
-                await here.lab.timing.set_clock(to=steps)
+                await here.lab.road_clock.set_clock(to=steps)
                 for place, shape in enumerate(shapes):
                     await here.ask(seat, "gesture", key=f"{place}", shape=shape)
                 said = await soon(here.ask(seat, "figures", of="mine", **{"from": 0, "to": steps}))
@@ -141,7 +141,7 @@ class ByCars(Case):
         for shapes, share in (([["block", 130, 130, 0, None, 1]], 0.95), ([["inflow", 1, 1, 0, None, 0]], 0.0)):
             async with Here(plan=plan) as here:
                 seat, = await here.join("Ada")
-                await here.lab.timing.set_clock(to=steps)
+                await here.lab.road_clock.set_clock(to=steps)
                 for place, shape in enumerate(shapes):
                     await here.ask(seat, "gesture", key=f"{place}", shape=shape)
                 said = await soon(here.ask(seat, "figures", of="mine", **{"from": 600, "to": steps}))
@@ -159,7 +159,7 @@ class ByCars(Case):
             plan = random_plan(chance)
             async with Here(plan=plan) as here:
                 seat, = await here.join("Ada")
-                await here.lab.timing.set_clock(to=STEPS)
+                await here.lab.road_clock.set_clock(to=STEPS)
                 for place, shape in enumerate(random_shapes(plan, chance)):
                     await here.ask(seat, "gesture", key=f"{place}", shape=shape)
                 here.keeper.settings = Settings(days=3)

@@ -15,7 +15,7 @@ from typing import Any, Iterator
 import aiohttp
 
 from hostile import memory
-from server.tabs.client import Seat
+from server.shell.client import Seat
 from running import LIVE, PATIENCE, Case, end, free_port, mosquitto, new_folder, started, until
 
 

@@ -51,7 +51,7 @@ test("six questions are open at most, and one of the first turn is sent before t
   assert.deepEqual(found.sent.at(-1), {id: 8, cells: {step: 7}});
 });
 
-test("three acts are open at most, so that other questions are sent meanwhile", () => {
+test("three gestures are open at most, so that other questions are sent meanwhile", () => {
   const {connection, found} = openConnection();
   for (let key = 1; key <= 9; key++) connection.ask({gesture: {key}}, "first");
   for (let step = 1; step <= 3; step++) connection.ask({cells: {step}});

@@ -11,7 +11,7 @@ from typing import Any, Callable, Sequence
 from aiohttp import ClientError
 
 from oracle import by_rows, oracle_of
-from server.tabs.client import Seat
+from server.shell.client import Seat
 from server.model.operations import Stamp
 from server.model.reading import read_operation
 from running import PATIENCE, SMALL, Case, Server, transport_of, until

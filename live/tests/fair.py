@@ -208,7 +208,7 @@ class Figures(Case):
     async def test_a_picture_waits_for_one_piece_of_its_seats_figures(self) -> None:
         async with Here() as here:
             seat, = await here.join("Ada")
-            await here.lab.timing.set_clock(to=7_200)
+            await here.lab.road_clock.set_clock(to=7_200)
             await here.ask(seat, "advance", to=7_200)
             for verb, more in COUNTING:
                 figures = asyncio.ensure_future(here.ask(seat, verb, **{"from": 0, "to": 7_200}, **more))
@@ -221,7 +221,7 @@ class Figures(Case):
         for verb, more in COUNTING:
             async with Here() as here:
                 seat, = await here.join("Ada")
-                await here.lab.timing.set_clock(to=7_200)
+                await here.lab.road_clock.set_clock(to=7_200)
                 await here.ask(seat, "advance", to=7_200)
                 span = {"from": 0, "to": 7_200, **more}
                 before = await here.ask(seat, verb, **span)

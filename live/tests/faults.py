@@ -19,7 +19,7 @@ from faulty import Bus, Disk, Here, Message, soon
 from running import ALL, Case, new_folder
 from server.model.operations import Stamp
 from server.tabs.refusals import Refused
-from server.journal.journal import read_entries
+from server.journal.journal_lines import read_entries
 from server.roads.program import Program
 from server.journal.state import State
 
@@ -140,7 +140,7 @@ class Story:
         await soon(self.here.keeper.compact())
         await self.put(self.ben, 70)
         await self.share(self.ben)
-        await self.act("clock", self.here.lab.timing.set_clock(to=100))
+        await self.act("clock", self.here.lab.road_clock.set_clock(to=100))
         await self.tell()
         await self.take(self.ada)
 

@@ -17,7 +17,7 @@ from unittest import mock
 
 from running import PATIENCE, SMALL, new_folder, program
 from server.tabs import verbs
-from server.tabs.asked import CommandFields
+from server.tabs.fields import CommandFields
 from server.journal.keeper import Keeper
 from server.journal.lab import Lab
 from server.model.operations import Operation, Stamp
@@ -130,7 +130,7 @@ class Here:
 
     def entries(self) -> list[Any]:
         """Return the entries on the disk."""
-        from server.journal.journal import read_entries
+        from server.journal.journal_lines import read_entries
         return read_entries(self.folder / "journal.jsonl")[0]
 
 

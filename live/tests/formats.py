@@ -18,14 +18,13 @@ from typing import Any, Iterator
 sys.path[:0] = [str(Path(__file__).resolve().parents[1]), str(Path(__file__).resolve().parent)]
 
 import running  # noqa: E402
-from oracle import Values, by_rows, oracle_of  # noqa: E402
+from oracle import Values, all_edits, by_rows, oracle_of  # noqa: E402
 from painted import LAST, THERE, random_operation  # noqa: E402
 from running import Case, Server  # noqa: E402
-from server.journal.journal import journal_line, to_json  # noqa: E402
-from server.journal.records import JOURNAL_FORM, Came, Entry, Folder, Keys, Made, SeatGiven, Share, Take, read_plan_line, write_entry  # noqa: E402
+from server.journal.journal_lines import journal_line, to_json  # noqa: E402
+from server.journal.entries import JOURNAL_FORM, Arrival, Entry, Folder, Keys, OwnOperation, SeatGrant, Share, Take, read_plan_line, write_entry  # noqa: E402
 from server.journal.state import Replica, State  # noqa: E402
 from server.model.operations import About, Operation, undo  # noqa: E402
-from server.model.projection import all_edits  # noqa: E402
 from server.model.road import Road  # noqa: E402
 from server.roads.screen import rows_of  # noqa: E402
 
@@ -76,7 +75,7 @@ class Site:
         self.state, self.written, self.name, self.sent = State(), list[Any](), name, list[Operation]()
         self.enter(Folder(JOURNAL_FORM, read_plan_line(PLAN), name))
         for index in range(1, SEATS + 1):
-            self.enter(SeatGiven(index, f"n{index}", digest(f"key {index}"), index))
+            self.enter(SeatGrant(index, f"n{index}", digest(f"key {index}"), index))
 
     def enter(self, entry: Entry) -> None:
         self.written.append(json.loads(json.dumps(write_entry(entry, self.name))))
@@ -88,8 +87,8 @@ class Site:
             hand: Any = Hand(seat, About(seat.name, site=self.name, when=number))
             sites: list[Any] = [self, other]
             one = random_operation(chance, hand, sites) if what < 0.5 or not seat.own else undo(
-                1 + max(stamp[0] for stamp in seat.road.record.held), chance.choice([*seat.own]), hand.author)
-            self.enter(Made(seat.index, one, f"key {number}"))
+                1 + max(stamp[0] for stamp in seat.road.operations.held), chance.choice([*seat.own]), hand.author)
+            self.enter(OwnOperation(seat.index, one, f"key {number}"))
         elif what < 0.8:
             some = seat.shareable()
             self.sent += some
@@ -99,7 +98,7 @@ class Site:
         else:
             fresh = [one for one in other.sent if one not in self.state.shared.road and chance.random() < 0.7]
             if fresh:
-                self.enter(Came(fresh, fresh[0].about.who, "", number))
+                self.enter(Arrival(fresh, fresh[0].about.who, "", number))
 
 
 def digest(key: str) -> str:

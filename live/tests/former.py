@@ -15,13 +15,12 @@ from typing import Any
 
 import running
 from formats import ORACLE, PLAN
-from oracle import by_rows
+from oracle import all_edits, by_rows
 from running import LIVE, Case, Server
-from server.journal.journal import journal_line, to_json
-from server.journal.records import write_entry
+from server.journal.journal_lines import journal_line, to_json
+from server.journal.entries import write_entry
 from server.journal.state import State
 from server.model.demands import asked_demands
-from server.model.projection import all_edits
 from server.roads.screen import rows_of
 
 SCRIPT = LIVE / "import_former"

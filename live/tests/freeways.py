@@ -12,7 +12,7 @@ from typing import Any, Mapping, Sequence
 
 from crashes import numbers
 from figures_told import at_inlets, value
-from server.tabs.client import Seat
+from server.shell.client import Seat
 from server.figures.report import demand_text
 from running import LIVE, PATIENCE, SMALL, Case, Server, end, new_folder, program, started, until
 from zegdrut.roads.clock import Clock

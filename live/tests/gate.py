@@ -16,9 +16,9 @@ from typing import Any, Iterator
 
 from faulty import Bus, Here
 from running import ALL, Broker, Case, Server, end, until
-from server.journal.journal import CorruptJournal, journal_line, to_json
+from server.journal.journal_lines import CorruptJournal, journal_line, to_json
 from server.model.reading import LONGEST_NAME, LONGEST_NOTE, clean_text
-from server.tabs.client import RefusedReply
+from server.shell.client import RefusedReply
 from server.tabs.refusals import Refused
 
 MOST, EACH, FOLDER = 20_000 if ALL else 300, 20, 1_000  # gestures: in all, before each restart, in a folder
@@ -222,13 +222,13 @@ class Gate(Case):
                 self.assertEqual([one.stamp for one in shared.places], [one.stamp for one in before])
                 self.assertEqual(state.seats[2].upto, len(before))
                 self.assertEqual(sorted(one.first for one in shared.road.layers.values()), [1, 3])
-                self.assertEqual(sorted(one.about.note for one in shared.road.record.operations()), ["d", "e", "first", "third"])
+                self.assertEqual(sorted(one.about.note for one in shared.road.operations), ["d", "e", "first", "third"])
                 self.assertIn("2 changes in the journal cannot be read", again.keeper.trouble or "")
                 self.assertTrue((await again.ask(1, "gesture", key="b", shape=["limit", 2, 2, 10, None, 3]))["again"])
                 self.assertTrue((await again.ask(1, "gesture", key="f", shape=["limit", 2, 2, 10, None, 3]))["again"])
                 bus = Bus()
                 site = bus.site(again)
-                site._send_unreturned()
+                site.send_shared()
                 sent = [one for message in bus.sent if message.topic.endswith("operations")
                         for one in json.loads(message.payload.partition(b"\n")[2])["operations"]]
                 self.assertEqual([one.get("note") for one in sent], ["first", "third", "d", "e"])

@@ -10,12 +10,12 @@ from unittest import mock
 
 from crashes import numbers
 from faulty import Bus, Here, message_of, soon, told, written
+from oracle import all_edits
 from running import ALL, LIVE, SMALL, Case
 from server.tabs import verbs
-from server.tabs.asked import CommandFields
-from server.tabs.refusals import MEANINGS, OF_THE_FORMAT, Refused
+from server.tabs.fields import CommandFields
+from server.tabs.refusals import NAMES, OF_THE_FORMAT, Refused
 from server.model.operations import About, Shape, put
-from server.model.projection import all_edits
 from server.roads.screen import rows_of
 from server.sites.floods import Floods
 from server.sites.sites import Sites
@@ -81,7 +81,7 @@ class Bounds(Case):
             self.assertEqual(one.lab.state.shared.size, 21)
             now[0] += 29
             second._sent.clear()
-            second._send_unreturned()
+            second.send_shared()
             await bus.carry()
             self.assertEqual(one.lab.state.shared.size, 21)
             now[0] += 2
@@ -242,7 +242,7 @@ class Bounds(Case):
                 topic = chance.choice(["operations", "operations", "sum"])
                 await site._receive(f"road/{site._road}/{topic}", "f", json.dumps(message).encode())
         self.assertEqual(error.call_args_list, [])
-        reply = await here.keeper.ask(0, (0,), lambda: here.keeper.say(b'{"scenario":{"at":"shared"}}', {}))
+        reply = await here.keeper.ask(0, (0,), lambda: here.keeper.program.ask(b'{"scenario":{"at":"shared"}}'))
         self.assertEqual(numbers(json.loads(reply)["edits"]), numbers(rows_of(all_edits(here.lab.state.shared.road))))
         self.assertGreater(here.lab.state.shared.size, 10)
 
@@ -310,7 +310,7 @@ class Bounds(Case):
         with mock.patch("server.sites.sites.time.monotonic", lambda: now[0]):
             await here.share(1)
             for _ in range(1_000):
-                site._send_unreturned()
+                site.send_shared()
                 sent += [now[0]] * len([one for one in bus.sent if one.topic.endswith("operations")])
                 bus.sent.clear()
                 now[0] += 3
@@ -346,14 +346,15 @@ class Refusals(unittest.TestCase):
         return dict(re.findall(r"^\| `([^`]+)` \| (.+) \|$", text, re.MULTILINE))
 
     def test_the_pages_name_the_same_refusals(self) -> None:
-        self.assertEqual(self.rows("live/PROTOCOL.md"), MEANINGS)
+        self.assertEqual(set(self.rows("live/PROTOCOL.md")), NAMES)
         self.assertEqual(set(self.rows("docs/FORMAT.md")), OF_THE_FORMAT)
 
     def test_each_refusal_is_used_and_no_other(self) -> None:
         texts = [path.read_text() for path in (LIVE / "server").rglob("*.py")]
-        used = {name for text in texts for name in re.findall(r'(?:Refused|_refuse_with_seats|super\(\).__init__)\(\s*"([^"]+)"', text)}
-        self.assertEqual(used - OF_THE_FORMAT, MEANINGS.keys() - OF_THE_FORMAT)
-        for name in MEANINGS:
+        used = {name for text in texts for name in re.findall(
+            r'(?:(?:Refused|_refuse_with_seats|super\(\).__init__)\(|Malformed\((?:f?"[^"]*"\s*)+,)\s*"([^"]+)"', text)}
+        self.assertEqual(used - OF_THE_FORMAT, NAMES - OF_THE_FORMAT)
+        for name in NAMES:
             self.assertRegex(name, r"^[A-Z][A-Za-z]+$")
         with self.assertRaisesRegex(ValueError, "no refusal is named too far ahead"):
             Refused("too far ahead", "")
@@ -392,5 +393,5 @@ class Tabs(Case):
         for seat in (0, 1):
             replica = here.lab.state.replica(seat)
             line = json.dumps({"scenario": {"at": replica.at}}).encode()
-            reply = await here.keeper.ask(1, (seat,), lambda: here.keeper.say(line, {}))
+            reply = await here.keeper.ask(1, (seat,), lambda: here.keeper.program.ask(line))
             self.assertEqual(numbers(json.loads(reply)["edits"]), numbers(rows_of(all_edits(replica.road))))

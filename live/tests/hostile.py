@@ -13,9 +13,9 @@ from unittest import mock
 import aiohttp
 
 from server.tabs import verbs
-from server.tabs.asked import CommandFields
+from server.tabs.fields import CommandFields
 from server.tabs.refusals import Refused
-from server.tabs.client import Seat
+from server.shell.client import Seat
 from server.tabs.doors import Strangers, address_group
 from server.tabs.tabs import Tab, parse_frame
 from running import PATIENCE, SMALL, Case, Server, end, started, transport_of, until

@@ -20,14 +20,15 @@ from unittest import mock
 
 import running
 from faulty import Disk, Here, soon
-from server.tabs.client import Seat
-from server.journal.journal import CannotStart, Entries, Journal, NotWritten, lock, make_folder, put_in_place, read_entries
+from server.shell.client import Seat
+from server.journal.journal import Journal, NotWritten, lock, make_folder, put_in_place
+from server.journal.journal_lines import CannotStart, Entries, read_entries
 from server.journal.keeper import Keeper
 from server.background.settings import Settings
 from crashes import numbers
 from running import LIVE, SMALL, Case
 from server.journal.naming import Counter, can_be_said, is_far, new_site
-from server.journal.records import write_entry
+from server.journal.entries import write_entry
 from server.journal.state import State
 from server.model.operations import About, Shape, put
 from server.model.reading import SITE
@@ -583,7 +584,7 @@ class Folders(Case):
             disk.is_asked.clear()
             gesture = asyncio.create_task(here.ask(ada, "gesture", key="k", shape=["limit", 2, 2, 50, None, 1]))
             await soon(asyncio.to_thread(disk.is_asked.wait))
-            clock = asyncio.create_task(here.lab.timing.set_clock(to=77))
+            clock = asyncio.create_task(here.lab.road_clock.set_clock(to=77))
             while not here.keeper._unapplied:
                 await asyncio.sleep(0)
             compaction = asyncio.create_task(here.keeper.compact())
@@ -730,7 +731,7 @@ class Names(Case):
                 disk.is_full()
                 with self.assertRaisesRegex(Refused, "NotWritten"):
                     await self.counts(here, 1)
-                self.assertEqual([*here.lab.state.by_stamp], [*here.lab.state.seats[1].road.record.held])
+                self.assertEqual([*here.lab.state.by_stamp], [*here.lab.state.seats[1].road.operations.held])
                 disk.is_full(False)
                 await here.keeper.wait_until_writable()
                 self.assertEqual(await self.counts(here, 1), [53])

@@ -8,7 +8,7 @@ import {test} from "node:test";
 import {untaken, unshared} from "../page/changes.mjs";
 import {decodeChange, decodeList} from "../page/decoding.mjs";
 import {Layers, countTrapped, isInForce, lostOf, privateOf} from "../page/layers.mjs";
-import {Words, affectedBy, historyOf, listChanges} from "../page/listing.mjs";
+import {Words, affectedBy, historyOf, listChanges} from "../page/changetexts.mjs";
 import {store} from "../page/store.mjs";
 
 const PLAN = JSON.parse(readFileSync(new URL("../plan.json", import.meta.url), "utf8"));

@@ -9,15 +9,14 @@ import secrets
 from typing import Any, Iterable
 
 from faulty import Bus, Here, Message, message_of, written
-from oracle import oracle_of
+from oracle import all_edits, oracle_of
 from zegdrut import Edit, RoadLab
 from running import ALL, SMALL, Case
 from server.tabs.refusals import Refused
 from server.model.operations import About, Operation, Shape, exclude, put
-from server.model.projection import all_edits
 from server.roads.screen import rows_of
 from server.journal.state import State
-from server.journal.records import read_plan_line
+from server.journal.entries import read_plan_line
 
 CELLS, STEPS = range(50, 56), range(0, 30, 5)
 
@@ -51,7 +50,7 @@ class LeftOut(Case):
         self.names = [here.lab.state.site for here in self.here]
         for here in self.here:
             await here.join(f"of site {here.site}")
-            await here.lab.timing.set_clock(to=100)
+            await here.lab.road_clock.set_clock(to=100)
 
     async def shape(self, place: int, *shape: Any, **more: Any) -> Any:
         """Make a gesture at a site, and share it."""
@@ -179,7 +178,7 @@ class LeftOut(Case):
 
     async def numbers(self, here: Here) -> dict[tuple[int, int], int]:
         """Return which cells are closed at which steps of the shared road, from the edits in force in the program."""
-        reply = await here.keeper.ask(0, (0,), lambda: here.keeper.say(b'{"scenario":{"at":"shared"}}', {}))
+        reply = await here.keeper.ask(0, (0,), lambda: here.keeper.program.ask(b'{"scenario":{"at":"shared"}}'))
         return closed(json.loads(reply)["edits"])
 
     async def test_an_excluded_site_warns_its_users_and_goes_on_working(self) -> None:

@@ -7,11 +7,12 @@ import itertools
 import json
 import unittest
 
+from oracle import all_edits
 from painted import EMPTY, made_by
 from working import takes_at_most
-from server.model import changes, choices, seen
+from server.model import choices, lines, visibility
 from server.model.operations import About, Json, Operation, Shape, exclude, lift, named, put, undo
-from server.model.projection import difference, all_edits
+from server.model.projection import difference
 from server.model.reading import GREATEST_COUNT, Malformed, read_operation
 from server.model.road import Road, change, repeat
 
@@ -30,7 +31,7 @@ def in_every_order(operations: list[Operation]) -> Road:
         for one in order:
             road = road.adding([one])
         roads.append(road)
-    assert all(road.layers == roads[1].layers and road.record.excluded == roads[1].record.excluded for road in roads[1:])
+    assert all(road.layers == roads[1].layers and road.operations.excluded == roads[1].operations.excluded for road in roads[1:])
     return roads[1]
 
 
@@ -54,7 +55,7 @@ class Cases(unittest.TestCase):
             bens = change(BASE, changed, LINE, LONGER, about=BEN)
             road = in_every_order([CLOSURE, withdrawal, back, bens])
             self.assertEqual(road.layers, BASE.adding([bens]).layers)
-            self.assertEqual(seen.find_overruled(road, LINE), {})
+            self.assertEqual(visibility.find_overruled(road, LINE), {})
 
     def test_a_private_undone_pair_is_not_shared_and_has_no_effect(self) -> None:
         withdrawal = change(BASE, 2, LINE, None, about=ADA)
@@ -80,23 +81,23 @@ class Cases(unittest.TestCase):
         taken, on_it = undo(3, adas, ADA), change(BASE.adding([adas]), 4, LINE, SHAPE, about=BEN)
         road = in_every_order([CLOSURE, adas, taken, on_it])
         self.assertEqual(road.layers[LINE].end, 15)
-        self.assertEqual(seen.find_overruled(road, LINE), {taken: on_it})
+        self.assertEqual(visibility.find_overruled(road, LINE), {taken: on_it})
 
     def test_an_undo_that_the_author_of_a_change_had_seen_has_not_lost_to_it(self) -> None:
         taken = undo(2, CLOSURE, BEN)
         again = change(BASE.adding([taken]), 3, LINE, LONGER, about=ADA)
         road = in_every_order([CLOSURE, taken, again])
-        self.assertEqual((road.layers[LINE].end, seen.find_overruled(road, LINE)), (25, {}))
+        self.assertEqual((road.layers[LINE].end, visibility.find_overruled(road, LINE)), (25, {}))
         at_once = change(BASE, 3, LINE, LONGER, about=ADA)
-        self.assertEqual(seen.find_overruled(in_every_order([CLOSURE, taken, at_once]), LINE), {taken: at_once})
+        self.assertEqual(visibility.find_overruled(in_every_order([CLOSURE, taken, at_once]), LINE), {taken: at_once})
 
     def test_behind_a_gap_only_what_is_later_than_the_gap_has_lost(self) -> None:
         """The author of the last change had seen one that is missing here, so he may have seen all older ones."""
         older, missing = change(BASE, 2, LINE, WIDE, about=ADA), change(BASE, 3, LINE, SHAPE, about=BEN)
         later = change(BASE, 4, LINE, SHAPE, about=ADA)
         last = change(BASE.adding([missing]), 5, LINE, LONGER, about=BEN)
-        self.assertEqual(seen.find_overruled(in_every_order([CLOSURE, older, last]), LINE), {})
-        self.assertEqual(seen.find_overruled(in_every_order([CLOSURE, older, later, last]), LINE), {later: last})
+        self.assertEqual(visibility.find_overruled(in_every_order([CLOSURE, older, last]), LINE), {})
+        self.assertEqual(visibility.find_overruled(in_every_order([CLOSURE, older, later, last]), LINE), {later: last})
 
     def test_a_new_act_ends_redo(self) -> None:
         taken = undo(2, CLOSURE, ADA)
@@ -121,14 +122,14 @@ class Cases(unittest.TestCase):
     def test_one_of_two_changes_at_once_wins_and_its_undo_shows_the_other(self) -> None:
         adas, bens = change(BASE, 2, LINE, WIDE, about=ADA), change(BASE, 3, LINE, LONGER, about=BEN)
         road = in_every_order([CLOSURE, adas, bens])
-        self.assertEqual((seen.find_overruled(road, LINE), road.layers[LINE].end), ({adas: bens}, 25))
+        self.assertEqual((visibility.find_overruled(road, LINE), road.layers[LINE].end), ({adas: bens}, 25))
         self.assertEqual(road.adding([undo(4, bens, BEN)]).layers, BASE.adding([adas]).layers)
 
     def test_a_change_and_put_on_top_at_once_both_take_effect(self) -> None:
         bens, adas = change(BASE, 2, LINE, LONGER, about=BEN), lift(2, LINE, ADA)
         road = in_every_order([CLOSURE, bens, adas])
         self.assertEqual((road.layers[LINE].end, road.layers[LINE].height), (25, adas.stamp))
-        self.assertEqual(seen.find_overruled(road, LINE), {})
+        self.assertEqual(visibility.find_overruled(road, LINE), {})
 
     def test_z_goes_back_and_redo_goes_forward(self) -> None:
         road, past = BASE, [{}, BASE.layers]
@@ -181,7 +182,7 @@ class Cases(unittest.TestCase):
         """The closure stays withdrawn, since the other withdrawal is still active; Z says so."""
         adas, bens = change(BASE, 2, LINE, None, about=ADA), change(BASE, 3, LINE, None, about=BEN)
         road = in_every_order([CLOSURE, adas, bens])
-        self.assertEqual(seen.find_overruled(road, LINE), {adas: bens})
+        self.assertEqual(visibility.find_overruled(road, LINE), {adas: bens})
         self.assertEqual(choices.find_undoable(road, made_by(road, ADA)).blocked, [adas, CLOSURE])
         self.assertEqual(road.adding([undo(4, adas, ADA)]).layers, {})
 
@@ -215,7 +216,7 @@ class Cases(unittest.TestCase):
             for one in order:
                 other = other.adding([one])
             self.assertEqual([layer.name for layer in other.on_object("block", 3)], [lifted.stamp, LINE])
-            self.assertEqual([one.by for one in seen.visible_rectangles(other, LINE)], [lifted.stamp])
+            self.assertEqual([one.by for one in visibility.visible_rectangles(other, LINE)], [lifted.stamp])
             edits.append(all_edits(other))
         self.assertTrue(all(one == edits[0] for one in edits))
 
@@ -251,11 +252,11 @@ class Cases(unittest.TestCase):
         for count in range(2, 20_002):
             many.append(named(Operation((count, ""), LINE, LONGER, seen=many[-1].stamp, about=ADA)))
         with takes_at_most(5):
-            self.assertEqual(seen.find_overruled(BASE.adding(many), LINE), {})
+            self.assertEqual(visibility.find_overruled(BASE.adding(many), LINE), {})
 
     def test_the_difference_of_two_roads_is_that_of_all_their_operations(self) -> None:
         road = BASE.adding([put(2, WIDE, ADA)])
-        self.assertEqual(difference(BASE, road), difference(BASE, EMPTY.adding(road.record.operations())))
+        self.assertEqual(difference(BASE, road), difference(BASE, EMPTY.adding(road.operations)))
         self.assertEqual(difference(road, road), {})
 
 
@@ -263,48 +264,48 @@ class Exclusions(unittest.TestCase):
     def test_an_excluded_site_stays_out_unless_its_excluder_undoes_that(self) -> None:
         out, bens = exclude(2, BEN.site, True, ADA), put(1, SHAPE, BEN)
         road = in_every_order([bens, out, undo(3, out, BEN)])
-        self.assertEqual((road.record.excluded, road.layers), ({BEN.site}, {}))
+        self.assertEqual((road.operations.excluded, road.layers), ({BEN.site}, {}))
         self.assertEqual(road.adding([undo(5, out, ADA)]).layers.keys(), {bens.stamp})
 
     def test_another_site_includes_an_excluded_one_without_undoing_the_exclusion(self) -> None:
         out, bens = exclude(2, BEN.site, True, ADA), put(1, SHAPE, BEN)
         road = EMPTY.adding([bens, out])
-        self.assertEqual(road.adding([undo(3, out, CLEO)]).record.excluded, {BEN.site})
+        self.assertEqual(road.adding([undo(3, out, CLEO)]).operations.excluded, {BEN.site})
         self.assertEqual(road.adding([exclude(3, BEN.site, False, CLEO)]).layers.keys(), {bens.stamp})
 
     def test_an_exclusion_may_arrive_after_its_undo(self) -> None:
         late = exclude(2, ADA.site, True, BEN)
         some = [undo(3, late, BEN), exclude(4, BEN.site, True, CLEO)]
-        self.assertEqual(EMPTY.adding(some).adding([late]).record.excluded, EMPTY.adding([late, *some]).record.excluded)
-        self.assertEqual(EMPTY.adding([late, *some]).record.excluded, {BEN.site})
+        self.assertEqual(EMPTY.adding(some).adding([late]).operations.excluded, EMPTY.adding([late, *some]).operations.excluded)
+        self.assertEqual(EMPTY.adding([late, *some]).operations.excluded, {BEN.site})
 
     def test_if_two_sites_exclude_each_other_the_newer_exclusion_counts(self) -> None:
         """So a site that somebody has excluded, with the greatest counts of all, can still be excluded by each other one."""
         bens = exclude(2, ADA.site, True, BEN)
         road = in_every_order([bens, CLOSURE, exclude(3, BEN.site, True, ADA)])
-        self.assertEqual((road.record.excluded, road.layers), ({BEN.site}, BASE.layers))
-        self.assertEqual(road.adding([exclude(4, ADA.site, True, BEN)]).record.excluded, {ADA.site})
+        self.assertEqual((road.operations.excluded, road.layers), ({BEN.site}, BASE.layers))
+        self.assertEqual(road.adding([exclude(4, ADA.site, True, BEN)]).operations.excluded, {ADA.site})
 
     def test_an_older_exclusion_of_a_site_that_is_excluded_since_does_not_count(self) -> None:
         """Ben excludes two sites with small counts and is excluded: both are in again. Once he is included, they are out."""
         some = [exclude(1, ADA.site, True, BEN), exclude(2, CLEO.site, True, BEN), exclude(3, BEN.site, True, ADA)]
         road = in_every_order(some)
-        self.assertEqual(road.record.excluded, {BEN.site})
+        self.assertEqual(road.operations.excluded, {BEN.site})
         back = undo(4, some[-1], ADA)
-        self.assertEqual(road.adding([back]).record.excluded, {ADA.site, CLEO.site})
+        self.assertEqual(road.adding([back]).operations.excluded, {ADA.site, CLEO.site})
 
     def test_an_exclusion_counts_again_once_its_site_is_included_again(self) -> None:
         out, back = exclude(2, BEN.site, True, ADA), exclude(3, BEN.site, False, CLEO)
         bens = exclude(1, ADA.site, True, BEN)
-        self.assertEqual(in_every_order([bens, out, back]).record.excluded, {ADA.site})
+        self.assertEqual(in_every_order([bens, out, back]).operations.excluded, {ADA.site})
         elsewhere = exclude(1, "elsewhere-00000000", True, BEN)
-        self.assertEqual(in_every_order([elsewhere, out, back]).record.excluded, {"elsewhere-00000000"})
-        self.assertEqual(in_every_order([elsewhere, out]).record.excluded, {BEN.site})
+        self.assertEqual(in_every_order([elsewhere, out, back]).operations.excluded, {"elsewhere-00000000"})
+        self.assertEqual(in_every_order([elsewhere, out]).operations.excluded, {BEN.site})
 
     def test_of_a_site_the_newest_exclusion_holds(self) -> None:
         out, back = exclude(2, BEN.site, True, ADA), exclude(3, BEN.site, False, CLEO)
-        self.assertEqual(in_every_order([out, back]).record.excluded, frozenset())
-        self.assertEqual(in_every_order([out, back, exclude(4, CLEO.site, True, ADA)]).record.excluded, {CLEO.site, BEN.site})
+        self.assertEqual(in_every_order([out, back]).operations.excluded, frozenset())
+        self.assertEqual(in_every_order([out, back, exclude(4, CLEO.site, True, ADA)]).operations.excluded, {CLEO.site, BEN.site})
 
     def test_very_many_exclusions_are_worked_out_quickly(self) -> None:
         road = EMPTY
@@ -312,7 +313,7 @@ class Exclusions(unittest.TestCase):
         with takes_at_most(5):
             for one in flips:
                 road = road.adding([one])
-            self.assertEqual(EMPTY.adding(flips).record.excluded, road.record.excluded)
+            self.assertEqual(EMPTY.adding(flips).operations.excluded, road.operations.excluded)
 
 
 class Capacities(unittest.TestCase):
@@ -327,7 +328,7 @@ class Capacities(unittest.TestCase):
         road = EMPTY.adding([self.WORKS])
         self.assertEqual(self.values(road, 2), [("limit", 5, 2), ("limit", 15, 5), ("slow", 5, 20_000), ("slow", 15, 1),
                                                 ("start", 5, 30_000), ("start", 15, 1)])
-        self.assertEqual(seen.covered_rectangles(road, self.WORKS.stamp), [])
+        self.assertEqual(visibility.covered_rectangles(road, self.WORKS.stamp), [])
 
     def test_what_lies_on_top_holds_kind_by_kind(self) -> None:
         lower, upper = put(1, Shape("limit", 1, 1, 0, None, 4), BEN), put(3, Shape("slow", 2, 2, 7, 9, 5), BEN)
@@ -335,10 +336,10 @@ class Capacities(unittest.TestCase):
         self.assertEqual(self.values(road, 1)[:3], [("limit", 0, 4), ("limit", 5, 2), ("limit", 15, 4)])
         self.assertEqual([one for one in self.values(road, 2) if one[0] == "slow"],
                          [("slow", 5, 20_000), ("slow", 7, 5), ("slow", 9, 20_000), ("slow", 15, 1)])
-        self.assertEqual([one[1:5] for one in seen.covered_rectangles(road, self.WORKS.stamp)], [(2, 2, 7, 9)])
-        self.assertEqual([one.by for one in seen.visible_rectangles(road, lower.stamp)], [None, self.WORKS.stamp, None])
+        self.assertEqual([one[1:5] for one in visibility.covered_rectangles(road, self.WORKS.stamp)], [(2, 2, 7, 9)])
+        self.assertEqual([one.by for one in visibility.visible_rectangles(road, lower.stamp)], [None, self.WORKS.stamp, None])
         on_top = road.adding([lift(4, self.WORKS.stamp, ADA)])
-        self.assertEqual(seen.covered_rectangles(on_top, self.WORKS.stamp), [])
+        self.assertEqual(visibility.covered_rectangles(on_top, self.WORKS.stamp), [])
         self.assertEqual([one for one in self.values(on_top, 2) if one[0] == "slow"], [("slow", 5, 20_000), ("slow", 15, 1)])
 
     def test_a_line_may_become_a_capacity_and_a_limit_again(self) -> None:
@@ -367,19 +368,19 @@ class Lists(unittest.TestCase):
         base = EMPTY.adding([below, above])
         lifted, withdrawn = lift(3, above.stamp, ADA), change(base, 3, above.stamp, None, about=BEN)
         road = base.adding([lifted])
-        self.assertEqual([one.by for one in seen.visible_rectangles(road, below.stamp)], [above.stamp])
+        self.assertEqual([one.by for one in visibility.visible_rectangles(road, below.stamp)], [above.stamp])
         then = road.adding([withdrawn])
-        self.assertIn(below.stamp, changes.find_altered_lines(road, then))
-        self.assertEqual([one.by for one in seen.visible_rectangles(then, below.stamp)], [None])
+        self.assertIn(below.stamp, lines.find_altered_lines(road, then))
+        self.assertEqual([one.by for one in visibility.visible_rectangles(then, below.stamp)], [None])
 
     def test_an_undo_belongs_to_the_line_of_what_it_undoes_once_that_is_there(self) -> None:
         changed = change(BASE, 2, LINE, LONGER, about=BEN)
         back = undo(3, changed, ADA)
         alone = EMPTY.adding([back])
-        self.assertEqual((changes.all_lines(alone), changes.operations_on(alone, back.stamp)), ({back.stamp}, [back]))
+        self.assertEqual((lines.all_lines(alone), lines.operations_on(alone, back.stamp)), ({back.stamp}, [back]))
         then = alone.adding([changed])
-        self.assertEqual((changes.all_lines(then), changes.operations_on(then, back.stamp)), ({LINE}, []))
-        self.assertEqual(changes.find_altered_lines(alone, then), {LINE, back.stamp})
+        self.assertEqual((lines.all_lines(then), lines.operations_on(then, back.stamp)), ({LINE}, []))
+        self.assertEqual(lines.find_altered_lines(alone, then), {LINE, back.stamp})
 
     def test_a_redo_that_lost_is_told_instead_of_what_it_brought_back(self) -> None:
         """Ben had taken Ada's undo and her redo when he built on the closure; that the redo was undone at that time he had not seen."""
@@ -387,17 +388,17 @@ class Lists(unittest.TestCase):
         redone = undo(3, taken, ADA)
         bens, again = change(BASE.adding([taken, redone]), 5, LINE, LONGER, about=BEN), undo(4, redone, ADA)
         road = in_every_order([CLOSURE, taken, redone, bens, again])
-        self.assertEqual((road.layers[LINE].end, seen.find_overruled(road, LINE)), (25, {again: bens}))
+        self.assertEqual((road.layers[LINE].end, visibility.find_overruled(road, LINE)), (25, {again: bens}))
 
     def test_an_older_exclusion_of_a_site_renames_its_line(self) -> None:
         """The line of the site is named after the older exclusion, and no longer after the newer one."""
         newer, older = exclude(8, BEN.site, False, ADA), exclude(4, BEN.site, False, CLEO)
         before = EMPTY.adding([newer])
         after = before.adding([older])
-        self.assertEqual((changes.all_lines(before), changes.all_lines(after)), ({newer.stamp}, {older.stamp}))
-        self.assertEqual(changes.find_altered_lines(before, after), {newer.stamp, older.stamp})
-        self.assertEqual(changes.operations_on(after, newer.stamp), [])
-        self.assertEqual(changes.operations_on(after, older.stamp), [older, newer])
+        self.assertEqual((lines.all_lines(before), lines.all_lines(after)), ({newer.stamp}, {older.stamp}))
+        self.assertEqual(lines.find_altered_lines(before, after), {newer.stamp, older.stamp})
+        self.assertEqual(lines.operations_on(after, newer.stamp), [])
+        self.assertEqual(lines.operations_on(after, older.stamp), [older, newer])
 
 
 class Reading(unittest.TestCase):

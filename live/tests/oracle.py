@@ -9,7 +9,9 @@ from __future__ import annotations
 from typing import Any, Callable, Iterable, Mapping
 
 from server.model.operations import Operation, Shape, Stamp
-from server.journal.records import read_plan_line
+from server.model.projection import Edits, difference
+from server.model.road import Road
+from server.journal.entries import read_plan_line
 from server.journal.state import plan_value
 
 Values = dict[tuple[str, int], list[Any]]
@@ -112,6 +114,11 @@ def oracle_of(plan: dict[str, Any], last: int) -> Oracle:
     line = read_plan_line(plan)
     there = {kind: plan[name] if kind == "block" else len(plan[name]) for kind, name in COUNTED.items()}
     return Oracle(there, lambda kind, index: plan_value(line, kind, index), last)
+
+
+def all_edits(road: Road) -> Edits:
+    """Return all edits of a road, which turn the road of the plan into it."""
+    return difference(Road(road.plan), road)
 
 
 def by_rows(edits: Iterable[Any]) -> dict[tuple[str, int], dict[int, tuple[int, Any]]]:

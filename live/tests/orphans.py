@@ -12,7 +12,7 @@ from pathlib import Path
 from typing import Any
 
 from running import PATIENCE, SMALL, Case, descendants, until
-from server.tabs.client import Seat
+from server.shell.client import Seat
 
 HERE = Path(__file__).resolve().parent
 

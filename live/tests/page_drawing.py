@@ -247,11 +247,11 @@ class OneFreeway(BrowserCase):
     def test_a_look_ahead_stops_at_the_limit_of_a_road(self) -> None:
         tab, = self.open(FREEWAY)
         tab.run_an_hour()
-        tab.script("store.ahead = now() + 35_000; lookAhead()")
-        self.assertEqual(tab.script("return store.ahead"), 39_600)  # by 36,000 steps
+        tab.script("store.forecastEnd = now() + 35_000; lookAhead()")
+        self.assertEqual(tab.script("return store.forecastEnd"), 39_600)  # by 36,000 steps
         tab.press("Look 30 min ahead")
         self.assertEqual(tab.text("said"), "Your road is already 10 hours ahead of the clock, which is the limit.")
-        self.assertEqual(tab.script("return store.ahead"), 39_600)
+        self.assertEqual(tab.script("return store.forecastEnd"), 39_600)
 
     def test_a_look_ahead_is_private(self) -> None:
         tab, = self.open(FREEWAY)

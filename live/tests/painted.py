@@ -14,7 +14,7 @@ from typing import Any, Iterable
 
 from oracle import Oracle
 from running import ALL
-from server.model import changes, choices, projection, seen
+from server.model import choices, lines, projection, visibility
 from server.model.operations import About, Operation, Shape, Stamp, exclude, lift, put, undo
 from server.model.reading import read_operation
 from server.model.road import Road, change
@@ -26,7 +26,7 @@ HISTORIES = 5_000 if ALL else 200
 
 def made_by(road: Road, author: About) -> list[Operation]:
     """Return the operations of a road that an author made."""
-    return [one for one in road.record.operations() if (one.about.who, one.site) == (author.who, author.site)]
+    return [one for one in road.operations if (one.about.who, one.site) == (author.who, author.site)]
 
 
 def plan(kind: str, index: int) -> int | None:
@@ -54,16 +54,16 @@ class Replica:
         for (kind, index, step), value in edits:
             self.program.setdefault((kind, index), {})[step] = self.count, value
         before, self.road = self.road, road
-        wanted, said = ORACLE.painted(road.record.operations()), ORACLE.by_the_program(self.program)
+        wanted, said = ORACLE.painted(road.operations), ORACLE.by_the_program(self.program)
         assert wanted == said, {thing: (wanted[thing], said[thing]) for thing in wanted if wanted[thing] != said[thing]}
-        self.check_list(changes.find_altered_lines(before, road))
+        self.check_list(lines.find_altered_lines(before, road))
         self.counted["roads"] += 1
 
     def check_list(self, altered: set[Stamp]) -> None:
         """Check that the list from increments equals the whole list."""
         for line in altered:
             self.listed[line] = entry(self.road, line)
-        whole = {line: entry(self.road, line) for line in changes.all_lines(self.road)}
+        whole = {line: entry(self.road, line) for line in lines.all_lines(self.road)}
         kept = {line: one for line, one in self.listed.items() if one["operations"]}
         assert kept == whole, {line: (kept.get(line), whole.get(line)) for line in kept.keys() | whole.keys()
                                if kept.get(line) != whole.get(line)}
@@ -72,10 +72,10 @@ class Replica:
 
 def entry(road: Road, line: Stamp) -> Any:
     """Return what the list shows of a line."""
-    losses = seen.find_overruled(road, line)
-    return {"shown": seen.visible_rectangles(road, line), "standing": line in road.layers, "covered": seen.covered_rectangles(road, line), "operations": [
-        (one.text(), road.record.counts(one), losses[one].stamp if one in losses else None)
-        for one in changes.operations_on(road, line)]}
+    losses = visibility.find_overruled(road, line)
+    return {"shown": visibility.visible_rectangles(road, line), "standing": line in road.layers, "covered": visibility.covered_rectangles(road, line), "operations": [
+        (one.text(), road.operations.counts(one), losses[one].stamp if one in losses else None)
+        for one in lines.operations_on(road, line)]}
 
 
 class Seat(Replica):
@@ -114,7 +114,7 @@ class Site:
 
 def count_of(seat: Seat, chance: random.Random) -> int:
     """Return a count above all that are held; sometimes far above, as if from the clock of another site."""
-    return max([0, *(stamp[0] for stamp in seat.road.record.held)]) + chance.choice([1, 1, 1, 2, 9])
+    return max([0, *(stamp[0] for stamp in seat.road.operations.held)]) + chance.choice([1, 1, 1, 2, 9])
 
 
 def random_shape(chance: random.Random) -> Shape:
@@ -129,10 +129,10 @@ def random_shape(chance: random.Random) -> Shape:
 
 def random_operation(chance: random.Random, seat: Seat, sites: list[Site]) -> Operation:
     count, what, author = count_of(seat, chance), chance.random(), seat.author
-    lines = sorted(changes.all_lines(seat.road))
-    if what < 0.36 or not lines:
+    names = sorted(lines.all_lines(seat.road))
+    if what < 0.36 or not names:
         return put(count, random_shape(chance), author)
-    line = chance.choice(lines)
+    line = chance.choice(names)
     if what < 0.6:
         return change(seat.road, count, line, random_shape(chance), chance.random() < 0.3, author)
     if what < 0.68:
@@ -142,12 +142,12 @@ def random_operation(chance: random.Random, seat: Seat, sites: list[Site]) -> Op
     if what < 0.79 and len(sites) > 1:
         other = chance.choice([site for site in sites if site.name != author.site])
         return exclude(count, other.name, chance.random() < 0.6, author)
-    return undo(count, chance.choice(list(seat.road.record.operations())), author)
+    return undo(count, chance.choice(list(seat.road.operations)), author)
 
 
 def same(one: Road, other: Road) -> None:
-    assert one.layers == other.layers and one.record.excluded == other.record.excluded
-    assert {each.stamp for each in one.record.void} == {each.stamp for each in other.record.void}
+    assert one.layers == other.layers and one.operations.excluded == other.operations.excluded
+    assert {each.stamp for each in one.operations.void} == {each.stamp for each in other.operations.void}
 
 
 class History:
@@ -180,7 +180,7 @@ class History:
             self.check_shown(chance.choice([seat, site.shared]).road)
             self.check_seat(site, seat)
         if chance.random() < 0.1:
-            some = list(seat.road.record.operations())
+            some = list(seat.road.operations)
             chance.shuffle(some)
             fresh = Replica(self.counted)
             fresh.becomes(EMPTY.adding(some), chance)  # a restart
@@ -203,7 +203,7 @@ class History:
     def share(self, site: Site, seat: Seat) -> None:
         some = choices.shareable(seat.road, site.shared.road, made_by(seat.road, seat.author))
         if self.chance.random() < 0.4:
-            stamps = {one.stamp for one in seat.road.record.operations() if self.chance.random() < 0.5}
+            stamps = {one.stamp for one in seat.road.operations if self.chance.random() < 0.5}
             some = choices.sendable(seat.road, site.shared.road, made_by(seat.road, seat.author), stamps)
         if some:
             site.shares(some, self.chance)
@@ -222,24 +222,24 @@ class History:
 
     def check_undo(self, before: Road, one: Operation) -> None:
         """Check that an undo gives the road without the operation, and that undoing the undo gives the road before."""
-        record = before.record
-        if any(each.excludes is not None for each in record.operations()):
+        operations = before.operations
+        if any(each.excludes is not None for each in operations):
             return
         after = before.adding([one])
-        undone = record.held.get(one.undoes or (0, ""))
-        if undone is not None and undone not in record.void:
-            never = EMPTY.adding(each for each in record.operations() if each is not undone)
+        undone = operations.held.get(one.undoes or (0, ""))
+        if undone is not None and undone not in operations.void:
+            never = EMPTY.adding(each for each in operations if each is not undone)
             assert after.layers == never.layers
         again = after.adding([undo(one.stamp[0] + 1, one, one.about)])
         assert again.layers == before.layers
         self.counted["undone"] += 1
 
     def check_shown(self, road: Road) -> None:
-        top = ORACLE.tops(road.record.operations())
+        top = ORACLE.tops(road.operations)
         for name in self.chance.sample(sorted(road.layers), min(3, len(road.layers))):
             layer = road.layers[name]
             found: dict[Any, Any] = {}
-            for kind, low, high, since, until, _, by in seen.visible_rectangles(road, name):
+            for kind, low, high, since, until, _, by in visibility.visible_rectangles(road, name):
                 for index in range(low, high + 1):
                     for step in range(since, LAST if until is None else min(LAST, until)):
                         assert (kind, index, step) not in found
@@ -248,7 +248,7 @@ class History:
             wanted = {(kind, index, step): None if top[kind, index][step][1] == name else top[kind, index][step][1] for kind in kinds
                       for index in range(layer.first, layer.last + 1) for step in range(layer.begin, min(LAST, layer.end))}
             assert found == wanted, (name, found, wanted)
-            covered = {(index, step) for one in seen.covered_rectangles(road, name) for index in range(one.first, one.last + 1)
+            covered = {(index, step) for one in visibility.covered_rectangles(road, name) for index in range(one.first, one.last + 1)
                        for step in range(one.begin, min(LAST, one.end or LAST))}
             assert covered == ({key[1:] for key, by in wanted.items() if by is not None} if layer.kind == "capacity" else set())
             self.counted["shown"] += 1
@@ -260,18 +260,18 @@ class History:
         for one in (found.undo, found.redo):
             if one is not None:
                 then = road.adding([undo(count_of(seat, chance), one, seat.author)])
-                assert then.layers != road.layers or then.record.excluded != road.record.excluded, "Z does nothing"
+                assert then.layers != road.layers or then.operations.excluded != road.operations.excluded, "Z does nothing"
         for one in found.blocked:
             assert road.adding([undo(count_of(seat, chance), one, seat.author)]).layers == road.layers
             assert any((other.about.who, other.site) != (seat.author.who, seat.author.site) for other in choices.find_overruling(road, one)), "somebody else is named"
         some = choices.shareable(road, shared, made_by(road, seat.author))
-        assert all(map(road.record.counts, some)), "what is undone is not shared"
+        assert all(map(road.operations.counts, some)), "what is undone is not shared"
         everything = road.adding(site.order)
         then = shared.adding(choices.shareable(everything, shared, made_by(everything, seat.author)))
-        assert then.layers == everything.layers and then.record.excluded == everything.record.excluded
+        assert then.layers == everything.layers and then.operations.excluded == everything.operations.excluded
         gone = choices.find_forgettable(road, shared, made_by(road, seat.author), chance.randrange(4))
-        left = EMPTY.adding(one for one in road.record.operations() if one not in gone)
-        assert left.layers == road.layers and left.record.excluded == road.record.excluded
+        left = EMPTY.adding(one for one in road.operations if one not in gone)
+        assert left.layers == road.layers and left.operations.excluded == road.operations.excluded
         self.counted["forgettable"] += len(gone)
         if gone and chance.random() < 0.3:
             seat.becomes(left, chance)

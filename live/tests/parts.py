@@ -8,7 +8,7 @@ from unittest import mock
 from faulty import Here, soon
 from running import Case, until
 from server.background import supervised
-from server.journal.timing import Timing
+from server.journal.road_clock import RoadClock
 from server.tabs.tabs import Tabs
 from server.roads.turns import Turns
 
@@ -48,7 +48,7 @@ class Parts(Case):
     async def test_the_task_that_keeps_the_clock_goes_on(self) -> None:
         """So does the freeing of seats."""
         call = failing_once(lambda lab: None)
-        with mock.patch.object(Timing, "save", call):
+        with mock.patch.object(RoadClock, "save", call):
             here = await self.enterAsyncContext(Here())
             await self.ends(here, call, "the task that saves the clock and frees seats")
 

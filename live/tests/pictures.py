@@ -8,9 +8,9 @@ import subprocess
 import unittest
 from typing import Any, Sequence
 
-from server.figures import saving
+from server.figures import files
 from server.roads.program import LONG_ROAD, command_of
-from server.tabs.client import RefusedReply
+from server.shell.client import RefusedReply
 from running import SMALL, Case, program
 
 LAST = 150
@@ -84,7 +84,7 @@ class Pictures(Case):
                   for span, pairs in enumerate(counts) for detector, (cars, speeds) in enumerate(pairs)]
         self.assertEqual(table[2:], [[str(cell) for cell in line] for line in wanted])
         for text in ("=a", "+a", "-a", "@a", " =a", "\t=a"):
-            self.assertEqual(saving.escape_formula(text), "'" + text)
-        self.assertEqual([saving.escape_formula(cell) for cell in ("a=", 7, "")], ["a=", 7, ""])
+            self.assertEqual(files.escape_formula(text), "'" + text)
+        self.assertEqual([files.escape_formula(cell) for cell in ("a=", 7, "")], ["a=", 7, ""])
         with self.assertRaises(RefusedReply):
             await self.ada.ask("csv", what="all")

@@ -6,7 +6,7 @@ import random
 import statistics
 from typing import Any, Sequence
 
-from server.journal.records import read_plan_line
+from server.journal.entries import read_plan_line
 from zegdrut import RoadLab
 
 STEPS = 420

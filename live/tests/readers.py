@@ -11,11 +11,11 @@ from typing import Any, Callable, Sequence, cast
 
 from crashes import numbers
 from oracle import counting_operations
-from server.tabs.client import RefusedReply, Seat
+from server.shell.client import RefusedReply, Seat
 from server.model.operations import Operation, Shape, Stamp
 from zegdrut import Kind, RoadLab
 from running import ALL, SMALL, Case, Server, until
-from server.journal.records import read_plan_line
+from server.journal.entries import read_plan_line
 
 LAST = 80
 PLAN: dict[str, Any] = {**SMALL, "length": 60, "zones": [[4, 9_000]] * 3, "inlets": [[0, 30_000], [25, 9_000]], "detectors": [20, 45]}

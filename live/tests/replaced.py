@@ -30,7 +30,7 @@ class Programs(Case):
             keeper.listeners.program.on(lambda: told.append((keeper.changes, keeper.why_changed)))
             os.kill(keeper.program._process.pid, signal.SIGSTOP)
             with mock.patch("server.roads.program.IDLE_PATIENCE", 1.0):
-                reply = await soon(keeper.ask(ada, (ada,), lambda: keeper.say(b'{"scenario":{"at":"seat1"}}', {})))
+                reply = await soon(keeper.ask(ada, (ada,), lambda: keeper.program.ask(b'{"scenario":{"at":"seat1"}}')))
             self.assertEqual([[*edit[:3], edit[5]] for edit in json.loads(reply)["edits"]], [["limit", 2, 50, 3]])
             self.assertEqual(told, [(1, "the program did not answer and used no processor time for 1 seconds")])
 

@@ -5,13 +5,13 @@ from __future__ import annotations
 import random
 from typing import Any, cast
 
-from server.tabs.client import RefusedReply, Seat
+from server.shell.client import RefusedReply, Seat
 from server.model.operations import Operation
 from server.model.reading import read_operation
 from zegdrut import Kind, RoadLab
 from oracle import oracle_of
 from running import ALL, SMALL, Case, Server, until
-from server.journal.records import read_plan_line
+from server.journal.entries import read_plan_line
 
 LAST = 80
 ROBOTS = 4

@@ -23,8 +23,8 @@ import unittest
 from pathlib import Path
 from typing import Any, Awaitable, Callable, Iterator
 
-from server.tabs.client import Seat
-from server.background.watch import SAID, Watch, is_of_server
+from server.shell.client import Seat
+from server.background.watch import SAID, Watch
 from working import is_too_long
 from zegdrut import program_path
 
@@ -248,6 +248,15 @@ def free_port() -> int:
         with socket.socket() as one, contextlib.suppress(OSError):
             one.bind(("127.0.0.1", port))
             return port
+
+
+def is_of_server(callback: object) -> bool:
+    """Return whether a piece of work belongs to the server: it is a call of one of its functions, or a step of a task that runs one. The
+    client, which tests use as tabs, is not a part of it."""
+    task = getattr(callback, "__self__", None)
+    does = task.get_coro() if isinstance(task, asyncio.Task) else callback
+    code = getattr(does, "cr_code", None) or getattr(getattr(does, "__func__", does), "__code__", None)
+    return code is not None and code.co_filename.startswith(str(LIVE / "server")) and not code.co_filename.endswith("client.py")
 
 
 @functools.cache

@@ -10,7 +10,7 @@ from unittest import mock
 from faulty import Here, soon
 from running import Case, new_folder
 from server.tabs import verbs
-from server.tabs.asked import CommandFields
+from server.tabs.fields import CommandFields
 from server.tabs.refusals import Refused
 from server.tabs.seating import SteadyClock
 from server.journal.lab import Lab
@@ -194,7 +194,7 @@ class Seats(Case):
             with self.assertRaisesRegex(Refused, "TooFarAhead"):
                 await self.here.ask(ada, verb, **more)
         with self.assertRaisesRegex(Refused, "Range"):
-            await self.here.lab.timing.set_clock(to=now + 36_001)
+            await self.here.lab.road_clock.set_clock(to=now + 36_001)
 
     async def clock(self, rate: float, seconds: float) -> int:
         """Return how many steps a clock of this rate advances in some seconds."""
@@ -204,19 +204,19 @@ class Seats(Case):
             before = keeper.now()
             for _ in range(int(seconds)):
                 self.time += 1
-                lab.timing.save()
+                lab.road_clock.save()
                 await keeper.journal.wait_until_written()
                 await asyncio.sleep(0)
             return keeper.now() - before
 
     async def test_a_clock_only_goes_forward_and_keeps_what_others_set_at_once(self) -> None:
         keeper, lab, is_free = self.here.keeper, self.here.lab, asyncio.Event()
-        await soon(asyncio.gather(lab.timing.set_clock(rate=60), lab.timing.set_clock(to=3_600), lab.timing.set_clock(to=3_500)))
+        await soon(asyncio.gather(lab.road_clock.set_clock(rate=60), lab.road_clock.set_clock(to=3_600), lab.road_clock.set_clock(to=3_500)))
         self.assertEqual(keeper.clock().rate, 60)
         self.assertGreaterEqual(keeper.now(), 3_600)
-        await lab.timing.set_clock(rate=600)
+        await lab.road_clock.set_clock(rate=600)
         busy = keeper.turns.ask(0, is_free.wait)
-        sets = asyncio.create_task(lab.timing.set_clock(to=keeper.now() + 1))
+        sets = asyncio.create_task(lab.road_clock.set_clock(to=keeper.now() + 1))
         await asyncio.sleep(0.2)
         before = keeper.now()
         is_free.set()
@@ -240,7 +240,7 @@ class Seats(Case):
 
     async def test_files_that_several_save_at_once_are_complete(self) -> None:
         """Tabs get pieces in turn. A tab that comes too late gets `Busy`."""
-        with mock.patch("server.figures.saving.MOST_PIECE", 2_000):
+        with mock.patch("server.figures.files.MOST_PIECE", 2_000):
             seats = await self.here.join("Ada", "Ben", "Cleo", "Dan", "Eve")
             alone = [await self.saved(seat) for seat in seats]
             pieces = [[await self.piece(seat, 0)] for seat in seats[:4]]
@@ -254,7 +254,7 @@ class Seats(Case):
             self.assertEqual(await self.saved(seats[4]), alone[4])
             for seat in seats[:4]:
                 await self.piece(seat, 0)
-            with mock.patch("server.figures.saving.TRANSCRIPT_UNUSED", 0):
+            with mock.patch("server.figures.files.TRANSCRIPT_UNUSED", 0):
                 await self.piece(seats[4], 0)  # of files that nobody fetches
 
     async def piece(self, seat: int, number: int) -> Any:

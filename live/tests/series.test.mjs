@@ -3,7 +3,7 @@
 import assert from "node:assert/strict";
 import {test} from "node:test";
 
-import {askSeries} from "../page/fetching.mjs";
+import {askSeries} from "../page/loader.mjs";
 import {Road} from "../page/rows.mjs";
 import {store} from "../page/store.mjs";
 

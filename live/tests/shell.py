@@ -18,10 +18,10 @@ from unittest import mock
 from oracle import by_rows, oracle_of
 from running import LIVE, PATIENCE, SMALL, Broker, Case, Server, end, new_folder, started
 from server import explain_missing
-from server.figures.curves import Curve
-from server.journal.records import read_plan_line
+from server.figures.admission import Curve
+from server.journal.entries import read_plan_line
 from server.model.reading import read_operation
-from server.tabs.words import InvalidWords, find_chance, find_state, read_change
+from server.shell.put import InvalidWords, find_chance, find_state, read_change
 from zegdrut.roads.clock import Clock
 from zegdrut.program.wire import WrittenEdit
 

@@ -7,9 +7,9 @@ import {test} from "node:test";
 const PAGE = new URL("../page/", import.meta.url);
 const SOURCES = new Map(readdirSync(PAGE).filter((name) => name.endsWith(".mjs")).map((name) =>
   [name.replace(".mjs", ""), readFileSync(new URL(name, PAGE), "utf8")]));
-const ACTIONS = ["acting", "days", "demand", "drafting", "fetching", "joining", "looking", "saving", "store"];
-const PURE = ["assign", "chain", "connection", "dayclock", "decoding", "estimates", "geometry", "kept", "labels",
-              "layers", "listing", "messages", "rows", "sentences", "stamps", "tables", "units"];
+const ACTIONS = ["comparison", "demand", "draft", "filenames", "gestures", "loader", "navigation", "session", "store"];
+const PURE = ["assign", "changetexts", "connection", "dayclock", "decoding", "estimates", "geometry", "labels", "layers",
+              "messages", "rows", "sentences", "stamps", "storage", "tables", "undo", "units"];
 // The store's watchers, and a cache of painted tiles.
 const KEPT_OUTSIDE = ["store watchers", "picture tilesKept"];
 const importsOf = (source) =>
@@ -51,7 +51,7 @@ test("the state of the page is in the store, and not in modules", () => {
 
 test("only one module loads levels of rows", () => {
   const loads = [...SOURCES].filter(([, source]) => /\.load\(/.test(source)).map(([name]) => name);
-  assert.deepEqual(loads, ["fetching"]);
+  assert.deepEqual(loads, ["loader"]);
 });
 
 test("no module opts out of its types", () => {

@@ -17,8 +17,8 @@ from running import SMALL, Case, new_folder
 from server.sites import peers, seals
 from server.sites.floods import Floods
 from server.sites.peers import Peers
-from server.journal.copies import move_to_new_site
-from server.journal.journal import CannotStart
+from server.shell.new_site import move_to_new_site
+from server.journal.journal_lines import CannotStart
 from server.journal.naming import Counter
 from server.model.operations import About, Operation, Shape, Stamp, lift, put, undo
 from server.model.reading import Malformed, read_operation
@@ -61,7 +61,7 @@ class Sited(Case):
         return here, self.bus.site(here)
 
     async def shared(self, here: Here) -> list[Any]:
-        reply = await here.keeper.ask(0, (0,), lambda: here.keeper.say(b'{"scenario":{"at":"shared"}}', {}))
+        reply = await here.keeper.ask(0, (0,), lambda: here.keeper.program.ask(b'{"scenario":{"at":"shared"}}'))
         edits: list[Any] = json.loads(reply)["edits"]
         return edits
 
@@ -484,7 +484,7 @@ class Exchange(Sited):
             await here.share(seat)
         await here.keeper.close()
         again = await self.enterAsyncContext(Here(here.folder))
-        self.bus.site(again)._send_unreturned()
+        self.bus.site(again).send_shared()
         message, = self.bus.sent
         operations = json.loads(message.payload.partition(b"\n")[2])["operations"]
         self.assertEqual([tuple(one["stamp"]) for one in operations], stamps(here))
@@ -492,7 +492,7 @@ class Exchange(Sited):
     async def test_a_site_announces_itself_when_it_has_connected(self) -> None:
         """Until then the others would count its messages as those of a stranger."""
         here, site = await self.here("north")
-        site._is_connected(None)
+        site._note_connection(True)
         message = self.bus.sent[0]
         self.assertEqual((message.topic, json.loads(message.payload.partition(b"\n")[2])), ("road/sites", {
             "form": 4, "site": here.lab.state.site, "host": site._host, "road": site._road, "count": here.keeper.counter.greatest}))
@@ -537,7 +537,7 @@ class Keys(Case):
     def road(self, here: Here) -> list[tuple[Stamp, bool]]:
         """Return the operations of the shared road, and whether each counts."""
         road = here.lab.state.shared.road
-        return [(one.stamp, road.record.counts(one)) for one in sorted(here.lab.state.shared.places)]
+        return [(one.stamp, road.operations.counts(one)) for one in sorted(here.lab.state.shared.places)]
 
     async def test_only_sealed_messages_are_taken(self) -> None:
         await self.share(50)
@@ -718,7 +718,7 @@ class Keys(Case):
             self.two.keeper.counter._fixed = time.time_ns() // 1_000_000 + day
             if 1 not in self.two.keys:
                 await self.two.join("Ben")
-            self.second._is_gone()  # for an hour; the other one goes on
+            self.second._note_connection(False)  # for an hour; the other one goes on
             self.bus.sites.remove(self.second)
             for step in (50, 51):
                 await self.share(step)
@@ -728,7 +728,7 @@ class Keys(Case):
             self.bus.sites.append(self.second)
             real = time.monotonic
             with mock.patch("server.sites.sites.time.monotonic", lambda: real() + 3_600):
-                self.second._is_connected(None)
+                self.second._note_connection(True)
                 await self.bus.rounds(4)
             self.assertEqual(self.road(self.one), self.road(self.two))
             self.assertEqual(self.second.state()["left_out"], 0)

@@ -6,7 +6,7 @@ import {beforeEach, test} from "node:test";
 
 import {areaOfShape} from "../page/area.mjs";
 import {curveAt} from "../page/demand.mjs";
-import {applyArea, dropWaiting} from "../page/drafting.mjs";
+import {applyArea, dropWaiting} from "../page/draft.mjs";
 import {Layers} from "../page/layers.mjs";
 import {Road} from "../page/rows.mjs";
 import {store} from "../page/store.mjs";

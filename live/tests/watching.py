@@ -10,14 +10,14 @@ from typing import Any, Callable
 from unittest import mock
 
 from faulty import Here
-from running import HELD_UP, Case, Watched, until
+from running import HELD_UP, Case, Watched, is_of_server, until
 from working import takes_at_most
-from server.tabs.client import Seat
+from server.shell.client import Seat
 from server.journal.keeper import Keeper
 from server.model.operations import About, Shape, put
 from server.model.road import Road
 from server.tabs.tabs import Tab, Tabs
-from server.background.watch import SAID, Watch, is_of_server, keep_collections_short
+from server.background.watch import SAID, Watch, keep_collections_short
 
 
 SHAPES = 130

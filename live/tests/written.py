@@ -14,9 +14,10 @@ from unittest import mock
 from faulty import Bus, Disk, Here, soon
 from figures_told import means
 from running import Case, until
-from server.figures import days, figures
+from server.figures import comparison
+from server.figures.child import Child
 from server.tabs.refusals import Refused
-from server.journal.records import SeatUsed
+from server.journal.entries import SeatUse
 from server.journal.journal import Journal
 from server.model.operations import About, Operation, Shape, put
 from server.roads.program import ProgramExited, Program
@@ -95,7 +96,7 @@ class Written(Case):
             rounds += 1
             if rounds == 2:
                 self.release_disk(errno.EIO)
-                await asyncio.wait([keeper.record(SeatUsed(1, 0))])
+                await asyncio.wait([keeper.record(SeatUse(1, 0))])
             return MORE
         self.assertEqual(await self.refused(keeper.ask(self.ben, (), piece)), "NotWritten")
         self.assertEqual(rounds, 2)
@@ -106,7 +107,7 @@ class Written(Case):
 
         async def body() -> None:
             self.release_disk(errno.EIO)
-            await asyncio.wait([keeper.record(SeatUsed(1, 0))])
+            await asyncio.wait([keeper.record(SeatUse(1, 0))])
             self.release_disk()
             await keeper.require_writable()
         self.assertEqual(await self.refused(keeper.ask(self.ben, (), body)), "NotWritten")
@@ -130,7 +131,7 @@ class Written(Case):
                 return any("share" in one for one in self.here.entries())
             await until(is_kept, "the share is on the disk")
             self.release_disk(errno.EIO)
-            await asyncio.wait([keeper.record(SeatUsed(self.ben, 0))])
+            await asyncio.wait([keeper.record(SeatUse(self.ben, 0))])
             is_free.set()
             self.assertEqual(len((await soon(share))["stamps"]), 3)
         self.release_disk()
@@ -312,7 +313,7 @@ class Written(Case):
         lab, keeper = self.here.lab, self.here.keeper
         told: list[Any] = []
         keeper.listeners.trouble.on(lambda: told.append(keeper.trouble))
-        await lab.timing.set_clock(rate=60)
+        await lab.road_clock.set_clock(rate=60)
         await self.here.put(self.ada, [*LIMIT, 3])
         self.disk.is_full()
 
@@ -350,7 +351,7 @@ class Written(Case):
         self.disk.is_read_only()
         for _ in range(2):
             self.assertEqual(await self.refused(self.here.put(self.ada, [*LIMIT, 4])), "NotWritten")
-            reply = await soon(keeper.ask(self.ben, (self.ada,), lambda: keeper.say(b'{"scenario":{"at":"seat1"}}', {})))
+            reply = await soon(keeper.ask(self.ben, (self.ada,), lambda: keeper.program.ask(b'{"scenario":{"at":"seat1"}}')))
             self.assertIn(b'["limit",2,50,', reply)
             self.assertIn(b",3]]", reply)
         self.assertIn("read-only", str(keeper.trouble).lower())
@@ -398,8 +399,8 @@ def counted() -> Iterator[list[Any]]:
             computed.append(found := await does(*given))
             return found
         return also
-    with mock.patch.object(figures.Figures, "compute", kept(figures.Figures.compute)), mock.patch.object(
-            days.Question, "answer", kept(days.Question.answer)):
+    with mock.patch.object(Child, "ask_in_turn", kept(Child.ask_in_turn)), mock.patch.object(
+            comparison.Comparisons, "compare", kept(comparison.Comparisons.compare)):
         yield computed
 
 
@@ -410,7 +411,7 @@ class Stalled(Case):
         self.disk = self.enterContext(Disk())
         for name, seconds in (("STALLS", 0.3), ("A_MOMENT", 0.2)):
             self.enterContext(mock.patch(f"server.journal.keeper.{name}", seconds))
-        for module in ("tabs.seating", "journal.timing"):
+        for module in ("tabs.seating", "journal.road_clock"):
             self.enterContext(mock.patch(f"server.{module}.A_MOMENT", 0.2))
         self.here = await self.enterAsyncContext(Here(site="north"))
         self.keeper = self.here.keeper
@@ -457,7 +458,7 @@ class Stalled(Case):
             self.assertEqual([one["name"] for one in await soon(self.here.lab.seating.list_saved_seats(turn))], ["Ada", "Ben"])
 
     async def test_changes_are_pending_and_all_else_goes_on(self) -> None:
-        await self.here.lab.timing.set_clock(rate=60)
+        await self.here.lab.road_clock.set_clock(rate=60)
         for names in (("write",), ("fsync",)):
             self.told.clear()
             await self.stalls(*names)

@@ -24,7 +24,7 @@ class Reports(Case):
     async def test_a_report_of_one_day_has_the_figures_of_the_page(self) -> None:
         async with Here(plan={**SMALL, "words": "steady"}) as here:
             seat, = await here.join("Ada")
-            await here.lab.timing.set_clock(to=600)
+            await here.lab.road_clock.set_clock(to=600)
             await here.ask(seat, "gesture", key="1", shape=["block", 60, 60, 120, 300, 1])
             await here.ask(seat, "gesture", key="2", shape=["watch", 2, 2, 200, 400, 0])
             page = (await soon(here.ask(seat, "report", **ASKED, **SPAN)))["html"]
@@ -45,7 +45,7 @@ class Reports(Case):
     async def test_a_report_is_self_contained_and_escapes_what_users_wrote(self) -> None:
         async with Here() as here:
             seat, = await here.join("<b>")
-            await here.lab.timing.set_clock(to=600)
+            await here.lab.road_clock.set_clock(to=600)
             await here.ask(seat, "gesture", key="1", shape=["block", 60, 60, 120, 300, 1])
             page = (await soon(here.ask(seat, "report", **ASKED, **SPAN)))["html"]
         for wanted in ("<h1>The road of &lt;Ada&gt;: 0:01:00 to 0:10:00</h1>", "<li>a &amp; b</li>", "@page { size: A4", "Seeds 1 to 5",

@@ -18,8 +18,6 @@ import traceback
 from pathlib import Path
 from typing import Callable
 
-HERE = str(Path(__file__).resolve().parents[1])
-CLIENT = str(Path(HERE, "tabs", "client.py"))  # not a part of the server
 LOOKS_AT_PIECE = 4  # how often a piece of the longest allowed duration is looked at
 FRAMES = 4  # frames of the stack in a warning
 SAID = "all others waited"
@@ -89,14 +87,6 @@ def describe_callback(callback: object) -> str:
     """Return a description of a piece for the case that it was not seen on the stack."""
     task = getattr(callback, "__self__", None)
     return repr(task.get_coro()) if isinstance(task, asyncio.Task) else repr(callback)
-
-
-def is_of_server(callback: object) -> bool:
-    """Return whether a piece belongs to this package: it is a call of one of its functions, or a step of a task that runs one."""
-    task = getattr(callback, "__self__", None)
-    does = task.get_coro() if isinstance(task, asyncio.Task) else callback
-    code = getattr(does, "cr_code", None) or getattr(getattr(does, "__func__", does), "__code__", None)
-    return code is not None and code.co_filename.startswith(HERE) and code.co_filename != CLIENT
 
 
 def keep_collections_short() -> None:

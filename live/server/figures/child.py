@@ -1,6 +1,6 @@
 """Run work that takes seconds to minutes in child processes of low priority, so that editing stays fast.
 
-    child = Child("server.figures.curves", nice=8)
+    child = Child("server.figures.admission", nice=8)
     curve = await child.ask(inlet, path)        in the server; `path` is that of road_lab
 
     serve(measure)                              in the child, the module: `measure(question)` yields results
@@ -20,7 +20,7 @@ from typing import AsyncIterator, Callable, Generic, Iterable, Mapping, TypeVar
 
 from .. import LIVE
 from ..background.settings import Settings
-from ..journal.journal import to_json
+from ..journal.journal_lines import to_json
 from ..roads.program import LONGEST_REPLY, command_ending_with_parent
 from ..tabs.refusals import Refused
 
@@ -84,6 +84,12 @@ class Child(Generic[Q, A]):
         if found is None or not is_done:
             raise Refused("Failed", "the server could not compute this; its log says why")
         return found
+
+    async def ask_in_turn(self, index: int, asked: Q, path: str) -> A:
+        """Answer the question of a seat like `ask`, but simulate one road at a time besides the laboratory's. Raise `Refused` if the seat
+        waits already, or too many wait."""
+        async with wait_for_slot(index):
+            return await self.ask(asked, path)
 
     async def _running(self, path: str) -> asyncio.subprocess.Process:
         """Return the process, started if necessary."""

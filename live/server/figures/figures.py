@@ -1,6 +1,6 @@
 """Measure the figures of two roads in a window. They are the rows of the table of `zegdrut.figures`, which names and defines them.
 
-As a child, this module answers a `FiguresAsked` with the figures of the steps `first` to `last` - 1; or with {"done": step}, if it has
+As a child, this module answers a `FiguresQuestion` with the figures of the steps `first` to `last` - 1; or with {"done": step}, if it has
 only read up to that step after `seconds`. A road stays in its slot, so the next question about it only reads rows that are new or that
 an edit has changed.
 """
@@ -16,9 +16,9 @@ from zegdrut.figures import Figure, FigureRow, RoadRun, compare, list_figures, m
 from zegdrut.figures.lost import AskedRates, compute_demands
 from zegdrut.figures.queues import is_of_free_road, with_lost
 from zegdrut.figures.simulation import read_counts
-from zegdrut.figures.trips import DetectorCount, Trips, Window, compute_travel_times_by_entry
+from zegdrut.figures.trips import DetectorCount, Trips, Window, compute_travel_times_by_entry, count_seconds_on
 from zegdrut.program.scripts import Script
-from zegdrut.program.wire import Fields, PlanLine, WrittenEdit
+from zegdrut.program.wire import CountReply, Fields, PlanLine, WrittenEdit
 from zegdrut.reports.report import Side
 from zegdrut.roads.units import to_km
 from zegdrut.roads.waiting import find_arrivals
@@ -26,7 +26,6 @@ from zegdrut.roads.waiting import find_arrivals
 from ..model.projection import Edits
 from ..roads.program import import_lines
 from ..roads.screen import first_step, rows_of
-from ..tabs.refusals import Refused
 from . import child
 
 KEYS = ("delay", "delay at", "hours", "demand", "demand at", "admitted", "admitted at", "lost", "lost at", "travel", "cars", "flow", "speed", "on")
@@ -43,7 +42,7 @@ TwoRoads = TypedDict("TwoRoads", {
     "plan": PlanLine, "before": Sequence[WrittenEdit], "after": Sequence[WrittenEdit], "demands": TwoDemands, "first": int,
     "last": int, "program": str, "names": Sequence[str]})
 """Two roads and a window: their plan, edits and demands, the steps `first` to `last` - 1, the path of road_lab, and the roads' names."""
-FiguresAsked = TypedDict("FiguresAsked", {"roads": TwoRoads, "slots": Sequence[str], "seconds": float})
+FiguresQuestion = TypedDict("FiguresQuestion", {"roads": TwoRoads, "slots": Sequence[str], "seconds": float})
 """A question: two roads, the slot of each, and the seconds that the answer may take."""
 DetectorFigures = TypedDict("DetectorFigures", {"cars": int, "speeds": int, "flow": "float | None", "speed": "float | None", "on": int})
 """What a detector counted: cars, the sum of their speeds in cells per step, flow in cars per hour, mean speed in km/h; and for how
@@ -57,23 +56,8 @@ Row = TypedDict("Row", {"figure": Head, "before": Mean, "after": Mean, "differen
 MeanTimes = Mapping[str, Sequence["tuple[int, float | None]"]]
 """By the first step of a minute of entry: for each detector, and last for the road's end, the number of cars and their mean seconds."""
 TwoTimes = TypedDict("TwoTimes", {"before": MeanTimes, "after": MeanTimes})
-FiguresTold = TypedDict("FiguresTold", {"done": int, "figures": Sequence[Row], "entries": TwoTimes}, total=False)
+FiguresAnswer = TypedDict("FiguresAnswer", {"done": int, "figures": Sequence[Row], "entries": TwoTimes}, total=False)
 """The figures of two roads and their travel times; or in `done` the step up to which the roads have been read."""
-
-
-class Figures(child.Child[FiguresAsked, FiguresTold]):
-    """Answers the questions of seats about the figures of two roads."""
-
-    def __init__(self) -> None:
-        super().__init__(__name__, NICE)
-
-    async def compute(self, index: int, roads: TwoRoads, slots: Sequence[str]) -> FiguresTold:
-        """Return the figures that a seat asks for. Raise `Refused` if they take too long, or others are waiting for theirs."""
-        async with child.wait_for_slot(index):
-            said = await self.ask({"roads": roads, "slots": slots, "seconds": SECONDS}, roads["program"])
-        if "done" in said:
-            raise Refused("Busy", f"the figures are computed up to step {said['done']} of {roads['last']} so far: ask again")
-        return said
 
 
 def list_of_live(plan: PlanLine) -> list[Figure]:
@@ -111,8 +95,9 @@ def describe_off(row: FigureRow, on: FigureRow | None, steps: int) -> str:
     return f"The detector at {place} was off for a part of the time on {'both roads' if all(were_off) else 'one of the roads'}."
 
 
-def detector_figures(one: DetectorCount) -> DetectorFigures:
-    """Return a detector's count in the form of a reply."""
+def detector_figures(said: CountReply, edits: Sequence[Edit], detector: int, window: Window) -> DetectorFigures:
+    """Return what a detector counted in a window, given the program's reply. `edits` are those of detectors, which switch them."""
+    one = DetectorCount(said["cars"], said["speeds"], count_seconds_on(edits, detector, window), window.steps)
     return {"cars": one.cars, "speeds": one.speeds, "flow": one.flow, "speed": one.time_mean_speed, "on": one.seconds_on}
 
 
@@ -197,7 +182,7 @@ class Roads:
             self._roads.popitem(last=False)[1].lab.close()
         return road
 
-    def answer(self, asked: FiguresAsked) -> Iterator[FiguresTold]:
+    def answer(self, asked: FiguresQuestion) -> Iterator[FiguresAnswer]:
         """Yield the figures of two roads, or up to which step they have been read."""
         both, until = asked["roads"], time.monotonic() + asked["seconds"]
         window = Window(both["first"], both["last"])

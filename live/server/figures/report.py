@@ -1,6 +1,6 @@
 """Make the report on two roads in a window: the same page as `zegdrut report` makes for a freeway.
 
-As a child, this module answers a `ReportAsked` with the page.
+As a child, this module answers a `ReportQuestion` with the page.
 """
 from __future__ import annotations
 
@@ -21,52 +21,24 @@ from .figures import TwoRoads, edits_of, sides_of
 DAYS = 5
 NICE = 8
 MOST_DATES = 12  # changes of a demand that a sentence lists; if there are more, the chart shows them
-ReportAsked = TypedDict("ReportAsked", {
+ReportQuestion = TypedDict("ReportQuestion", {
     "roads": TwoRoads, "title": str, "works": Sequence[str], "clock": Sequence["str | None"], "days": int})
 """Two roads, sentences about the change, the begin, date and time zone of the road's file, and the number of days."""
-ReportTold = TypedDict("ReportTold", {"html": str})
-
-
-async def make_report(index: int, asked: ReportAsked) -> ReportTold:
-    """Return the report that a seat asks for. Raise `Refused` if it takes too long, or others are waiting for theirs."""
-    process: child.Child[ReportAsked, ReportTold] = child.Child(__name__, NICE)
-    async with child.wait_for_slot(index):
-        try:
-            return await process.ask(asked, asked["roads"]["program"])
-        finally:
-            process.close()
+ReportAnswer = TypedDict("ReportAnswer", {"html": str})
 
 
 # In the child
 
 def closures_of(edits: Edits, last: int) -> list[tuple[int, int, float, float]]:
-    """Return the closures of a road, as (from step, to step, from km, to km). Neighbouring cells are one closure."""
-    changes: dict[int, list[tuple[int, int]]] = {}
-    for (kind, cell, step), value in sorted(edits.items()):
-        if kind == "block" and value is not None:
-            changes.setdefault(cell, []).append((step, value))
-    spans: dict[tuple[int, int], list[int]] = {}
-    for cell, puts in changes.items():
-        begin = None
-        for step, value in [*puts, (last, 0)]:
-            if value and begin is None:
-                begin = step
-            elif not value and begin is not None:
-                spans.setdefault((begin, step), []).append(cell)
-                begin = None
-    return [(begin, end, to_km(cells[0]), to_km(cells[-1] + 1)) for (begin, end), all_cells in spans.items()
-            for cells in join_adjacent_cells(all_cells)]
-
-
-def join_adjacent_cells(cells: Sequence[int]) -> list[list[int]]:
-    """Return the cells, in rising order, as stretches of adjacent cells."""
-    found: list[list[int]] = []
-    for cell in cells:
-        if found and found[-1][-1] == cell - 1:
-            found[-1].append(cell)
-        else:
-            found.append([cell])
-    return found
+    """Return the closures of a road, as (from step, to step, from km, to km). Neighbouring cells are one closure. The edits of a cell
+    close it and open it in turn."""
+    changes = sorted((cell, step, value) for (kind, cell, step), value in edits.items() if kind == "block")
+    firsts: dict[tuple[int, int, int], int] = {}  # by the begin, the end and the next cell of a closure: its first cell
+    for (cell, begin, value), (following, end, _) in zip(changes, [*changes[1:], (-1, last, 0)]):
+        if value and begin < last:
+            span = begin, end if following == cell else last
+            firsts[(*span, cell + 1)] = firsts.pop((*span, cell), cell)
+    return [(begin, end, to_km(first), to_km(behind)) for (begin, end, behind), first in firsts.items()]
 
 
 def facts_of(roads: TwoRoads, side: Side, clock: Clock) -> list[str]:
@@ -103,7 +75,7 @@ def demand_text(rates: Rates, clock: Clock, last: int) -> str:
     return ", ".join(f"{rate:,} from {clock.to_text(step)}" for step, rate in dates) + " cars/h"
 
 
-def make_page(asked: ReportAsked) -> Iterator[ReportTold]:
+def make_page(asked: ReportQuestion) -> Iterator[ReportAnswer]:
     """Yield the report as HTML."""
     roads = asked["roads"]
     window, plan = Window(roads["first"], roads["last"]), roads["plan"]

@@ -1,117 +1,339 @@
-"""Read and write the lines of a journal.
+"""Define the entries of the journal, form 4: their fields, how these are read, and how an entry changes a state.
 
-A line ends with the checksum of its entry: `crc` in the first line of a write, `and` in the other lines. A write begins only when
-the one before is on the disk. So if a line is malformed and no write begins after it, that line was never confirmed. (Lines of
-older journals have no checksum.)
+    entry = read_entry("take", value, site)     raises `Malformed` if the value is not such an entry
+    entry.apply(state)
+    write_entry(entry, site)                    {"take": {..}}
+
+An entry is a dataclass. `READERS` has the reader of each field. A field that has its default value is not written.
 """
 from __future__ import annotations
 
-import itertools
-import json
-import re
-import zlib
-from pathlib import Path
-from typing import Iterator, Mapping
+import dataclasses
+from dataclasses import dataclass
+from typing import TYPE_CHECKING, Callable, ClassVar, Mapping, Sequence, TypeVar, cast
 
-from ..model.operations import Json
+from zegdrut.program.grammar import PLAN, check_fields
+from zegdrut.program.wire import PlanLine
 
-JOURNAL = "journal.jsonl"
-JournalLine = Mapping[str, Mapping[str, Json]]
-"""The kind of an entry, and its fields."""
-SUM = 18  # bytes of a checksum at the end of a line
-SUMMED = re.compile(rb',"(crc|and)":"([0-9a-f]{8})"\}')
+from ..model.operations import Json, Operation, Stamp
+from ..model.reading import Malformed, list_of, read_kept_operation, read_row, read_site, read_stamp, read_time, whole
+from .journal_lines import CannotStart, JournalLine
 
+if TYPE_CHECKING:
+    from .state import State
 
-class CannotStart(Exception):
-    """The server cannot start with this folder or these options. The text is a sentence that says why."""
-
-
-class CorruptJournal(CannotStart):
-    """The journal has a malformed line."""
+JOURNAL_FORM = 4
+MOST_SEATS = 64
+Fields = Mapping[str, Json]
+J = TypeVar("J", bound="JsonObject")
 
 
-def to_json(value: object) -> str:
-    """Return a value as compact JSON in one line."""
-    return json.dumps(value, separators=(",", ":"), ensure_ascii=False, allow_nan=False)
+class JsonObject:
+    """A value that is written as a JSON object. Each subclass is a dataclass."""
+
+    __dataclass_fields__: ClassVar[dict[str, dataclasses.Field[object]]]
+
+    @classmethod
+    def read(cls: type[J], value: Json) -> J:
+        """Return the value that a JSON object describes. Raise `Malformed` or KeyError if it describes none."""
+        if not isinstance(value, dict):
+            raise Malformed(f"a JSON object was expected, not {str(value)[:40]}")
+        return cls(**{part.name: READERS[name](value[name]) for name, part in parts_of(cls)
+                      if part.default is dataclasses.MISSING or value.get(name) is not None})
+
+    def fields(self) -> dict[str, Json]:
+        values = ((name, part.default, getattr(self, part.name)) for name, part in parts_of(type(self)))
+        return {name: write_value(value) for name, default, value in values if value != default}
 
 
-def journal_line(text: str, is_first: bool) -> bytes:
-    """Return the line of an entry. `is_first` says whether it is the first of a write."""
-    data = text.encode()
-    return data[:-1] + b',"%s":"%08x"}\n' % (b"crc" if is_first else b"and", zlib.crc32(data))
+class Entry(JsonObject):
+    """An entry of a journal."""
+
+    kind: ClassVar[str]
+
+    def apply(self, state: State) -> None:
+        """Change a state as the entry says."""
+        raise NotImplementedError
 
 
-class Entries:
-    """The entries of a journal, read one by one. When all have been read, `size` is their length in bytes."""
-
-    def __init__(self, path: Path, most: int | None = None) -> None:
-        """Read only the first `most` bytes if that is given."""
-        self._path, self._most = path, most
-        self.size = 0
-
-    def __iter__(self) -> Iterator[JournalLine]:
-        """Yield each entry. Raise `CorruptJournal` at a malformed line, unless it belongs to a write that was never confirmed."""
-        if not self._path.exists():
-            return
-        left = self._path.stat().st_size if self._most is None else self._most
-        with open(self._path, "rb") as file:
-            for number in itertools.count(1):
-                line = file.readline(left)
-                left -= len(line)
-                if not line.endswith(b"\n"):
-                    return
-                try:
-                    entry = entry_of(self._path, number, line[:-1])
-                except CorruptJournal:
-                    if not self._never_ended(line[:-1], file.read(left)):
-                        raise
-                    return
-                self.size += len(line)
-                yield entry
-
-    def _never_ended(self, line: bytes, behind: bytes) -> bool:
-        """Return whether a malformed line belongs to a write that never ended: no write begins in the bytes behind it."""
-        *lines, rest = behind.split(b"\n")
-        could = [line.rpartition(b"\0")[2], *lines]
-        return bool(rest or b"\0" in line) and not any(is_confirmed_before(self._path, one) for one in could)
+def parts_of(kind: type[JsonObject]) -> list[tuple[str, dataclasses.Field[object]]]:
+    """Return the fields of a class, by their names in the journal, which have no `is_`."""
+    return [(part.name.removeprefix("is_"), part) for part in dataclasses.fields(kind)]
 
 
-def form_of(folder: Path) -> Json:
-    """Return the form of a folder's journal; None if it has no journal that can be read."""
-    try:
-        return next((entry.get("lab", {}).get("form") for entry in Entries(folder / JOURNAL)), None)
-    except (CorruptJournal, OSError):
-        return None
+def write_value(value: object) -> Json:
+    """Return the value of a field as JSON."""
+    if isinstance(value, Operation):
+        return value.written()
+    if isinstance(value, JsonObject):
+        return value.fields()
+    return [*map(write_value, value)] if isinstance(value, (list, tuple)) else cast(Json, value)
 
 
-def read_entries(path: Path, size: int | None = None) -> tuple[list[JournalLine], int]:
-    """Return the entries of a journal, or of its first `size` bytes, and their length in bytes. Raise `CorruptJournal` at a malformed
-    line, unless it belongs to a write that was never confirmed."""
-    entries = Entries(path, size)
-    return list(entries), entries.size
+# How fields are read
+
+def read_string(value: Json) -> str:
+    if not isinstance(value, str):
+        raise Malformed(f"{str(value)[:40]} is not a string")
+    return value
 
 
-def entry_of(path: Path, number: int, line: bytes) -> JournalLine:
-    """Read an entry; raise `CorruptJournal` if it is malformed, or its checksum differs."""
-    summed = SUMMED.fullmatch(line[-SUM:])
-    text = line[:-SUM] + b"}" if summed else line
-    try:
-        if summed and zlib.crc32(text) != int(summed[2], 16):
-            raise ValueError("its checksum is wrong")
-        entry: Json = json.loads(text)
-    except (ValueError, RecursionError) as fault:
-        raise CorruptJournal(f"{path}, line {number}, is malformed ({fault}): {line[:60]!r}") from None
-    fields = {kind: value for kind, value in entry.items() if isinstance(value, dict)} if isinstance(entry, dict) else {}
-    if len(fields) != 1 or fields != entry:
-        raise CorruptJournal(f"{path}, line {number}, is not an entry: {line[:60]!r}")
-    return fields
+def read_plan_line(value: Json) -> PlanLine:
+    """Return a plan line. Raise `Malformed` if its fields are not those of a plan line."""
+    fault = next(check_fields(value, PLAN, "the plan"), None)
+    if fault is not None:
+        raise Malformed(fault)
+    return cast(PlanLine, value)
 
 
-def is_confirmed_before(path: Path, line: bytes) -> bool:
-    """Return whether this line shows that all lines before it were confirmed: it is well-formed, and the first of a write."""
-    try:
-        entry_of(path, 0, line)
-    except CorruptJournal:
-        return False
-    summed = SUMMED.fullmatch(line[-SUM:])
-    return summed is None or summed[1] == b"crc"
+def read_number(value: Json) -> float:
+    if not isinstance(value, (int, float)):
+        raise Malformed(f"{str(value)[:40]} is not a number")
+    return value
+
+
+def read_form(value: Json) -> int:
+    """Return the form of a journal. Raise `CannotStart` if this server reads another one."""
+    if value != JOURNAL_FORM:
+        raise CannotStart(f"the journal has form {value}, and this server reads form {JOURNAL_FORM}. "
+                          + ("Make a new folder from this one: live/import_former FOLDER NEW_FOLDER" if value in (1, 2, 3) else
+                             "Use the newer server that wrote it"))
+    return JOURNAL_FORM
+
+
+def read_key(value: Json) -> tuple[str, Stamp]:
+    """Return a key and the stamp of its operation."""
+    key, stamp = read_row(value, 2, "a pair has two parts")
+    return read_string(key), read_stamp(stamp)
+
+
+def whole_to(most: int, what: str) -> Callable[[Json], int]:
+    """Return the reader of a whole number of at most `most`."""
+    return lambda value: whole(value, most, what)
+
+
+# Entries
+
+@dataclass(frozen=True)
+class Folder(Entry):
+    """The first entry: the form of the journal, the plan, and the name of the site."""
+
+    kind = "lab"
+    form: int
+    plan: PlanLine
+    site: str
+
+    def apply(self, state: State) -> None:
+        state.plan, state.site = self.plan, self.site
+
+
+@dataclass(frozen=True)
+class Clock(Entry):
+    """The clock: the steps per second, the present step, and the step at which a fast clock stops."""
+
+    kind = "clock"
+    rate: float
+    now: int
+    stop: int | None = None
+
+    def apply(self, state: State) -> None:
+        state.rate, state.now, state.stop = self.rate, self.now, self.stop
+
+
+@dataclass(frozen=True)
+class SeatGrant(Entry):
+    """A seat was given to somebody. `key` is the hash of the tab's key, `upto` how many shared operations it has taken."""
+
+    kind = "seat"
+    seat: int
+    name: str
+    key: str
+    when: float
+    upto: int = 0
+
+    def apply(self, state: State) -> None:
+        seat = state.seats[self.seat]
+        seat.name, seat.key, seat.used = self.name, self.key, self.when
+        state.take(seat, self.upto)
+
+
+@dataclass(frozen=True)
+class SeatUse(Entry):
+    """A seat last had a tab at this time."""
+
+    kind = "left"
+    seat: int
+    when: float
+
+    def apply(self, state: State) -> None:
+        state.seats[self.seat].used = self.when
+
+
+@dataclass(frozen=True)
+class SeatRelease(Entry):
+    """A seat was freed."""
+
+    kind = "free"
+    seat: int
+
+    def apply(self, state: State) -> None:
+        state.free(self.seat)
+
+
+@dataclass(frozen=True)
+class OwnOperation(Entry):
+    """A seat made an operation. If `is_shared`, it is on the shared road, too; if `is_unsent`, other sites may not have it. The journal
+    leaves out the site of the operation where it is the folder's own."""
+
+    kind = "made"
+    seat: int
+    operation: Operation
+    key: str | None = None
+    is_shared: bool = False
+    is_unsent: bool = False
+    title: str = ""
+
+    def apply(self, state: State) -> None:
+        seat, one = state.seats[self.seat], state.intern(self.operation)
+        if self.is_shared:
+            state.hold_shared([one], self.is_unsent, self.title)
+        seat.own[one], state.makers[one] = None, seat.index
+        seat.hold([one])
+        if self.key is not None:
+            seat.done[self.key] = one.stamp
+
+
+@dataclass(frozen=True)
+class Share(Entry):
+    """A seat shared private operations."""
+
+    kind = "share"
+    seat: int
+    stamps: Sequence[Stamp]
+    who: str = ""
+    title: str = ""
+    when: float = 0
+
+    def apply(self, state: State) -> None:
+        wanted = set(self.stamps)
+        given = [one for one in state.private(state.seats[self.seat]) if one.stamp in wanted]
+        state.hold_shared(given, is_unsent=True, title=self.title)
+        state.add_news(News(state.shared.size, self.who, self.title, self.when, len(given)))
+
+
+@dataclass(frozen=True)
+class Arrival(Entry):
+    """Operations came from other sites; or they are from this site, but their seat was freed."""
+
+    kind = "came"
+    operations: Sequence[Operation]
+    who: str = ""
+    title: str = ""
+    when: float = 0
+    is_unsent: bool = False
+
+    def apply(self, state: State) -> None:
+        fresh = state.hold_shared([*map(state.intern, self.operations)], self.is_unsent, self.title)
+        state.add_news(News(state.shared.size, self.who, self.title, self.when, len(fresh)))
+
+
+@dataclass(frozen=True)
+class Take(Entry):
+    """A seat took the first `upto` operations of the shared road."""
+
+    kind = "take"
+    seat: int
+    upto: int
+
+    def apply(self, state: State) -> None:
+        state.take(state.seats[self.seat], self.upto)
+
+
+@dataclass(frozen=True)
+class Acknowledgement(Entry):
+    """The broker returned these operations, so other sites get them."""
+
+    kind = "back"
+    stamps: Sequence[Stamp]
+
+    def apply(self, state: State) -> None:
+        back = set(self.stamps)
+        state.unsent = {one: None for one in state.unsent if one.stamp not in back}
+
+
+@dataclass(frozen=True)
+class Keys(Entry):
+    """The stamps of a seat's operations by their keys."""
+
+    kind = "done"
+    seat: int
+    keys: Sequence[tuple[str, Stamp]]
+
+    def apply(self, state: State) -> None:
+        state.seats[self.seat].done.update(self.keys)
+
+
+@dataclass(frozen=True)
+class News(JsonObject):
+    """Operations that were shared together: `size` is their number, `upto` how many the shared road had afterwards."""
+
+    upto: int
+    who: str
+    title: str
+    when: float
+    size: int
+
+    def reply_fields(self) -> dict[str, Json]:
+        """Return the share in the form of a reply to a tab."""
+        return {name: value for name, value in self.fields().items() if name != "upto"}
+
+
+@dataclass(frozen=True)
+class NewsList(Entry):
+    """The latest shares."""
+
+    kind = "shares"
+    shares: Sequence[News]
+
+    def apply(self, state: State) -> None:
+        state.shares = [*self.shares]
+
+
+@dataclass(frozen=True)
+class Works(Entry):
+    """Every new seat starts with the first `upto` operations of the shared road: the roadworks of a freeway's file."""
+
+    kind = "works"
+    upto: int
+
+    def apply(self, state: State) -> None:
+        state.works = self.upto
+
+
+ENTRY_KINDS: dict[str, type[Entry]] = {one.kind: one for one in Entry.__subclasses__()}
+PLACE, STEP, TEXT = whole_to(1 << 40, "place"), whole_to(1 << 30, "step"), read_string
+READERS: Mapping[str, Callable[[Json], object]] = {
+    "form": read_form, "plan": read_plan_line, "site": read_site, "rate": read_number, "now": STEP, "stop": STEP,
+    "seat": whole_to(MOST_SEATS - 1, "seat"), "name": TEXT, "key": TEXT, "who": TEXT, "title": TEXT, "when": read_time, "upto": PLACE,
+    "size": PLACE, "operation": read_kept_operation, "operations": list_of(read_kept_operation), "stamps": list_of(read_stamp),
+    "keys": list_of(read_key), "shares": list_of(News.read), "shared": lambda value: value is True, "unsent": lambda value: value is True}
+"""The readers of fields, by their names in the journal."""
+
+
+def read_entry(kind: str, value: Fields, site: str) -> Entry:
+    """Return an entry of the journal of a site. Raise `Malformed` if the fields are not those of such an entry."""
+    if kind not in ENTRY_KINDS:
+        raise Malformed(f"the journal's form {JOURNAL_FORM} has no entry `{kind}`")
+    operation = value.get("operation")
+    if isinstance(operation, dict) and "site" not in operation:
+        value = {**value, "operation": {**operation, "site": site}}
+    return ENTRY_KINDS[kind].read({**value})
+
+
+def write_entry(entry: Entry, site: str) -> JournalLine:
+    """Return an entry in the form of the journal of a site."""
+    fields = entry.fields()
+    operation = fields.get("operation")
+    if isinstance(operation, dict) and operation.get("site") == site:
+        del operation["site"]
+    return {entry.kind: fields}

@@ -6,7 +6,7 @@
     await journal.write({"clock": ..})     returns once the entry is on the disk; one sync serves all that wait
     await journal.wait_until_written()     returns once all entries written so far are on the disk
 
-The module `entries` defines the lines.
+The module `journal_lines` defines the lines.
 """
 from __future__ import annotations
 
@@ -15,7 +15,6 @@ import contextlib
 import ctypes
 import errno
 import fcntl
-import functools
 import gc
 import itertools
 import logging
@@ -23,11 +22,9 @@ import os
 import signal
 import time
 from pathlib import Path
-from typing import Callable, Iterable, Iterator, ParamSpec, TypeVar
+from typing import Callable, Iterable, Iterator, ParamSpec
 
-from .entries import JOURNAL as JOURNAL, CannotStart as CannotStart, CorruptJournal as CorruptJournal, Entries as Entries
-from .entries import JournalLine as JournalLine, form_of as form_of
-from .entries import journal_line as journal_line, to_json as to_json, read_entries as read_entries
+from .journal_lines import JOURNAL, CannotStart, JournalLine, journal_line, read_entries, to_json
 
 WRITTEN_AT_ONCE = 1_000
 ROOM = 262_144  # bytes that must fit on the disk before it counts as writable; no gesture is longer
@@ -35,7 +32,6 @@ NICE = 5  # the priority of the process that shortens a journal, below editing
 LAST_WAIT = 5.0  # seconds that the end of the server waits for the disk
 Then = Callable[[], None]
 P = ParamSpec("P")
-T = TypeVar("T")
 
 
 class ServerRuns(CannotStart):
@@ -46,7 +42,7 @@ class NotWritten(Exception):
     """An entry could not be written to the disk."""
 
 
-class Displaced(OSError):
+class DisplacedJournal(OSError):
     """The journal of a running server was moved away, removed or replaced."""
 
     def __init__(self, path: Path) -> None:
@@ -55,7 +51,7 @@ class Displaced(OSError):
 
 def explain_fault(fault: OSError) -> str:
     """Return why an entry was not written, as a sentence."""
-    return str(fault.strerror) if isinstance(fault, Displaced) else f"the disk does not accept writes ({fault.strerror})"
+    return str(fault.strerror) if isinstance(fault, DisplacedJournal) else f"the disk does not accept writes ({fault.strerror})"
 
 
 @contextlib.contextmanager
@@ -132,13 +128,8 @@ def write(file: int, pieces: Iterable[bytes]) -> None:
 def put_in_place(path: Path, pieces: Iterable[bytes]) -> int:
     """Create or replace a file atomically. Return it, open to append to it."""
     file = put_beside(path, pieces)
-    try:
+    with dropped_after_fault(path, file):
         os.rename(successor_path(path), path)
-    except OSError:
-        close_all(file)
-        with contextlib.suppress(OSError):
-            successor_path(path).unlink()
-        raise
     return file
 
 
@@ -151,14 +142,21 @@ def put_beside(path: Path, pieces: Iterable[bytes]) -> int:
     """Write the replacement of a file, completely or not at all. Return it, open to append to it."""
     successor_path(path).unlink(missing_ok=True)
     file = open_for_append(successor_path(path))
-    try:
+    with dropped_after_fault(path, file):
         write(file, pieces)
+    return file
+
+
+@contextlib.contextmanager
+def dropped_after_fault(path: Path, file: int) -> Iterator[None]:
+    """Close and remove the replacement of a file if the block fails."""
+    try:
+        yield
     except OSError:
         close_all(file)
         with contextlib.suppress(OSError):
             successor_path(path).unlink()
         raise
-    return file
 
 
 def fork_writer(path: Path, entries: Callable[[], Iterable[JournalLine]]) -> int:
@@ -288,7 +286,7 @@ class Journal:
         """Call a function that waits for the disk, on another thread."""
         self._began = time.monotonic()
         try:
-            await asyncio.get_running_loop().run_in_executor(None, functools.partial(does, *given, **named))
+            await asyncio.to_thread(does, *given, **named)
         finally:
             self._began = None
 
@@ -311,13 +309,13 @@ class Journal:
         self.size += len(data)
 
     def _require_in_place(self) -> None:
-        """Raise `Displaced` if the journal's path does not name the file that this server writes."""
+        """Raise `DisplacedJournal` if the journal's path does not name the file that this server writes."""
         try:
             is_in_place = os.path.samestat(os.stat(self.path), os.fstat(self._file))
         except (FileNotFoundError, NotADirectoryError):
             is_in_place = False
         if not is_in_place:
-            raise Displaced(self.path)
+            raise DisplacedJournal(self.path)
 
     def _cut(self) -> None:
         os.ftruncate(self._file, self.size)
@@ -358,7 +356,7 @@ class Journal:
         file = open_for_append(successor_path(self.path))
         try:
             while self.size - copied > ROOM and self.failures == failures:
-                copied = await self._run_in_background(self._copy, file, copied)
+                copied = await asyncio.to_thread(self._copy, file, copied)  # tabs do not wait for it, so it does not count as a slow disk
             await asyncio.wait([asyncio.ensure_future(self._replace(file, copied, failures))])
         except OSError as fault:
             logging.warning("the journal was not compacted: %s", fault)
@@ -376,15 +374,11 @@ class Journal:
     async def _is_written(self, process: int) -> bool:
         """Wait for the process that writes the entries. Return whether all of them are on the disk."""
         try:
-            _, status = await self._run_in_background(os.waitpid, process, 0)
+            _, status = await asyncio.to_thread(os.waitpid, process, 0)
         except asyncio.CancelledError:
             os.kill(process, signal.SIGKILL)
             raise
         return status == 0
-
-    async def _run_in_background(self, does: Callable[P, T], *given: P.args, **named: P.kwargs) -> T:
-        """Call a function that waits for the disk, on another thread. Tabs do not wait for it, so it does not count as a slow disk."""
-        return await asyncio.get_running_loop().run_in_executor(None, functools.partial(does, *given, **named))
 
     def _copy(self, file: int, begin: int) -> int:
         """Append what was written from the byte `begin` on to another file. Return the byte up to which it was copied."""

@@ -20,15 +20,16 @@ from zegdrut.program.grammar import LAST_HORIZON
 from ..background.listeners import Listeners
 from ..background.settings import Settings
 from ..background.supervised import supervise
-from ..model.operations import Json, Operation
+from ..model.operations import Json
 from ..model.road import Road
 from ..roads.program import ProgramExited, Program, Times, command_of, start
 from ..roads.screen import Differences, Screen
 from ..roads.turns import MORE, Job, More, Turns
 from ..tabs.refusals import Refused
-from .journal import CannotStart, CorruptJournal, Entries, JournalLine, Journal, NotWritten, explain_fault, to_json
-from .naming import Counter, is_called, new_site
-from .records import JOURNAL_FORM, AnyEntry, Clock, Folder, Made, read_plan_line, write_entry
+from .entries import JOURNAL_FORM, Clock, Entry, Folder, OwnOperation, read_plan_line, write_entry
+from .journal import Journal, NotWritten, explain_fault
+from .journal_lines import CannotStart, CorruptJournal, Entries, JournalLine, to_json
+from .naming import Counter, new_site
 from .state import NO_PLAN, State
 
 MOST_UNDOABLE = 20  # newest private operations of a seat, which are never forgotten
@@ -50,6 +51,17 @@ async def do_nothing() -> None:
     """Do nothing. As a job, it only waits for its turn."""
 
 
+async def wait_until_written(done: Awaitable[None], times: Times) -> None:
+    """Wait until an entry is on the disk, and add the seconds to `times`. Raise `Refused` if the write fails. If the caller is cancelled,
+    the write goes on."""
+    began = time.perf_counter()
+    try:
+        await asyncio.shield(done)
+    except NotWritten as fault:
+        raise NotKept(fault) from None
+    times["sync"] = times.get("sync", 0) + time.perf_counter() - began
+
+
 class Keeper:
     """A folder's journal, the state that it describes, and a program that simulates it."""
 
@@ -69,7 +81,7 @@ class Keeper:
         self.confirmed = 0  # how many of the shared operations are on the disk; nobody is shown the others
         self._forgotten = 0  # the number of failed writes after which the state was read again from the disk
         self.clock_started = time.monotonic()
-        self._unapplied: dict[asyncio.Future[None], AnyEntry] = {}  # written entries that take effect once they are on the disk
+        self._unapplied: dict[asyncio.Future[None], Entry] = {}  # written entries that take effect once they are on the disk
         self.differences = Differences()
         self._screen: Screen | None = None
         self._next: asyncio.Future[Screen] | None = None
@@ -86,7 +98,7 @@ class Keeper:
         entries = Entries(path)
         self.state, is_new = self._read(entries)
         self.confirmed = self.state.shared.size
-        if not is_new and site is not None and not is_called(self.state.site, site):
+        if not is_new and site is not None and self.state.site.rpartition("-")[0] != site:
             raise CannotStart(f"{self.folder} belongs to site {self.state.site} for ever: start it without --site, or use a new folder")
         if is_new:
             own = new_site(site)
@@ -99,10 +111,14 @@ class Keeper:
         self.clock_started = time.monotonic()
         self._forget()
         self._screen = await self._start()
-        self.tasks = [supervise("the answers to tabs", self.turns.run, self.report_end),
-                      supervise("the watch over the disk", self._watch_disk, self.report_end),
-                      supervise("the task that shortens the journal", self.shorten_journal, self.report_end)]
+        self.supervise("the answers to tabs", self.turns.run)
+        self.supervise("the watch over the disk", self._watch_disk)
+        self.supervise("the task that shortens the journal", self.shorten_journal)
         return is_new
+
+    def supervise(self, what: str, run: Callable[[], Awaitable[object]]) -> None:
+        """Run a task until the server is closed. If it ends, tell people, and start it again."""
+        self.tasks.append(supervise(what, run, self.listeners.ended.notify))
 
     async def compact(self) -> None:
         """Shorten the journal: write the present state, with each operation once."""
@@ -120,7 +136,7 @@ class Keeper:
                 await self.compact()
                 size = max(self.settings.most_journal, 2 * self.journal.size)
 
-    def _written(self, entry: AnyEntry) -> JournalLine:
+    def _written(self, entry: Entry) -> JournalLine:
         return write_entry(entry, self.state.site)
 
     def _read(self, entries: Iterable[JournalLine]) -> tuple[State, bool]:
@@ -137,10 +153,6 @@ class Keeper:
         state.shared.prepare()
         return state, number == 0
 
-    def report_end(self, sentence: str) -> None:
-        """Tell people that a task of the server has ended and is started again."""
-        self.listeners.ended.notify(sentence)
-
     async def close(self) -> None:
         """End the program and close the journal. All that was confirmed is on the disk."""
         for task in self.tasks:
@@ -151,11 +163,11 @@ class Keeper:
         if hasattr(self, "journal"):
             await self.journal.close()
 
-    def record(self, entry: AnyEntry) -> asyncio.Future[None]:
+    def record(self, entry: Entry) -> asyncio.Future[None]:
         """Apply an entry to the state at once, and write it. The future is done when the entry is on the disk."""
         self._check_disk()
         entry.apply(self.state)
-        if isinstance(entry, Made):
+        if isinstance(entry, OwnOperation):
             one = entry.operation
             self.undo_count += one.undoes is not None or one.withdraws
         upto = self.state.shared.size
@@ -166,7 +178,7 @@ class Keeper:
         done.add_done_callback(self._is_written)
         return done
 
-    def apply_when_written(self, entry: AnyEntry, then: Callable[[], None]) -> asyncio.Future[None]:
+    def apply_when_written(self, entry: Entry, then: Callable[[], None]) -> asyncio.Future[None]:
         """Write an entry, and apply it to the state once it is on the disk; then the future is done."""
         def apply() -> None:
             self._unapplied.pop(done)
@@ -228,7 +240,7 @@ class Keeper:
     async def _try_disk(self) -> str | None:
         """Try the disk. Return why it refuses writes, or None if it accepts them. This may never return."""
         try:
-            await self.journal.probe_disk(self.clock().written())
+            await self.journal.probe_disk(self._written(self.clock()))
         except OSError as fault:
             return explain_fault(fault)
         self._trouble = None
@@ -383,10 +395,6 @@ class Keeper:
         failures: set[int] = set()
         return self.turns.ask(turn, job, at_leisure, takes_long)
 
-    def is_confirmed(self, one: Operation) -> bool:
-        """Return whether a shared operation is on the disk."""
-        return self.state.shared.places.get(one, self.confirmed) < self.confirmed
-
     async def read_committed(self, look: Callable[[], Awaitable[T]], may_see: str = "all") -> T:
         """Return the result of `look` once all that it may have seen is on the disk. `may_see` says what it may have seen that is not yet
         there: "nothing", what was "shared", or "all". If a write fails, look again."""
@@ -403,14 +411,6 @@ class Keeper:
                 if failures == self._forgotten == self.journal.failures:
                     return found
             await self.turns.ask(SHARED, do_nothing)
-
-    async def say(self, line: bytes, times: Times) -> bytes:
-        """Return the program's reply to a line; raise its refusal. To be called in a job."""
-        return (await self.say_all([line], times))[0]
-
-    async def say_all(self, lines: list[bytes], times: Times) -> list[bytes]:
-        """Return the program's replies to lines that are sent at once; raise the first refusal."""
-        return await self.program.say_all(lines, times)
 
     def now(self) -> int:
         """Return the step at which the road's clock is."""

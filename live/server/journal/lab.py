@@ -7,27 +7,25 @@ from __future__ import annotations
 
 import asyncio
 import time
-from dataclasses import replace
+from dataclasses import dataclass, replace
 from typing import Awaitable, Callable, Mapping, TypedDict, TypeVar, Union
 
-from ..background.supervised import supervise
-from ..model.changes import line_of
 from ..model.choices import find_overruling, sendable, find_undoable, would_change
 from ..model.demands import kept_demand, written_demand
+from ..model.lines import line_of
 from ..model.operations import About, Json, Operation, Shape, Stamp, exclude, lift, put, undo
 from ..model.reading import Malformed
 from ..model.road import Road, change, repeat
 from ..roads.program import Times
 from ..roads.screen import first_step
-from ..tabs.lines import Act, Lister
-from ..tabs.refusals import Refused, not_a_command
+from ..tabs.change_list import ListedOperation, Lister
+from ..tabs.refusals import Refused
 from ..tabs.seating import Seating
 from .checks import Checks
-from .keeper import SHARED, Keeper
-from .records import Came, CameBack, Made, Share, Take, Works
+from .entries import Arrival, OwnOperation, Share, Take
+from .keeper import SHARED, Keeper, wait_until_written
+from .road_clock import RoadClock
 from .state import Replica, SeatReplica, State
-from .timing import Timing
-from .writing import Write, wait_until_written
 
 MOST_IN_TAKE = 200  # operations in the reply to a take
 LOOKED_AT = 500  # operations that are looked at for news
@@ -36,15 +34,23 @@ MOST_BLOCKED = 5  # operations that undo skips, in a reply
 
 ReplyFields = Mapping[str, object]
 """The fields of a reply to a tab."""
-NewsReply = TypedDict("NewsReply", {"size": int, "from": "list[str]", "shares": "list[dict[str, Json]]", "changes": "list[Act]"})
-Called = Union[Stamp, str]  # a stamp, or the key of an operation of the seat
-MakeOperation = Callable[[SeatReplica, int, About], Operation]  # makes an operation of this count
+NewsReply = TypedDict("NewsReply", {"size": int, "from": "list[str]", "shares": "list[dict[str, Json]]", "changes": "list[ListedOperation]"})
+Done = asyncio.Future[None]
+"""An entry that is being written. It is done once the entry is on the disk."""
+StampOrKey = Union[Stamp, str]  # a stamp, or the key of an operation of the seat
 T = TypeVar("T")
 
 
-def add_fields(about: About, more: Mapping[str, Json]) -> About:
-    """Return the author, time and note of an operation, with more fields."""
-    return replace(about, more=more) if more else about
+@dataclass(frozen=True)
+class Author:
+    """The seat that makes an operation, the count of the operation, and its author, note, time and site."""
+
+    seat: SeatReplica
+    count: int
+    about: About
+
+
+MakeOperation = Callable[[Author], Operation]
 
 
 class Lab:
@@ -52,15 +58,14 @@ class Lab:
 
     def __init__(self, keeper: Keeper) -> None:
         self.keeper = keeper
-        self.seating, self.timing = Seating(keeper), Timing(keeper)
-        self._pending: dict[tuple[int, str], list[asyncio.Future[None]]] = {}  # by seat and key: entries that are being written
+        self.seating, self.road_clock = Seating(keeper), RoadClock(keeper)
+        self._pending: dict[tuple[int, str], Done] = {}  # by seat and key: entries that are being written
 
     async def open(self, plan: Callable[[], Mapping[str, Json]], site: str | None) -> bool:
         """Open the keeper's folder. Return whether it is new."""
         is_new = await self.keeper.open(plan, site)
         self._checks = Checks(self.state.plan)
-        self.keeper.tasks.append(supervise("the task that saves the clock and frees seats", self._look_after,
-                                            self.keeper.report_end))
+        self.keeper.supervise("the task that saves the clock and frees seats", self._look_after)
         return is_new
 
     @property
@@ -76,77 +81,63 @@ class Lab:
             if self.keeper.journal.fault is not None:
                 continue
             rounds += 1
-            self.timing.save()
+            self.road_clock.save()
             if rounds % 10 == 0 or settings.day < 60:
                 self.seating.free_unused()
 
     # Operations
 
-    async def put_shape(self, index: int, times: Times, *, key: str, note: str, shape: Shape, demand: float | None = None,
-                        is_planned: bool = False) -> ReplyFields:
+    def put_shape(self, by: Author, shape: Shape, demand: float | None = None, is_planned: bool = False) -> Operation:
         """Put a shape on top of all. `demand` is what an inflow chance stands for, in cars per hour; it `is_planned` if it is the demand
         of the road's file."""
-        self._checks.check_shape(shape)
-        more = written_demand(demand, is_planned)
-        return await self._make(index, key, note, times, lambda seat, count, about: put(count, shape, add_fields(about, more)))
+        return put(by.count, shape, replace(by.about, more=written_demand(demand, is_planned)))
 
-    async def change_line(self, index: int, times: Times, *, key: str, note: str, line: Called, shape: Shape | None,
-                          top: bool, demand: float | None = None) -> ReplyFields:
+    def change_line(self, by: Author, called: StampOrKey, shape: Shape | None, top: bool, demand: float | None = None) -> Operation:
         """Change the shape of a line, or withdraw the line if `shape` is None. It keeps its height unless `top` is true."""
-        if shape is not None:
-            self._checks.check_shape(shape)
+        road, line = by.seat.road, self._find_line(by.seat, called)
+        said = demand if demand is not None or shape is None else kept_demand(road, line, shape)
+        return change(road, by.count, line, shape, top, replace(by.about, more=written_demand(said)))
 
-        def make_operation(seat: SeatReplica, count: int, about: About) -> Operation:
-            changed = self._find_line(seat, line)
-            said = demand if demand is not None or shape is None else kept_demand(seat.road, changed, shape)
-            return change(seat.road, count, changed, shape, top, add_fields(about, written_demand(said)))
-        return await self._make(index, key, note, times, make_operation)
-
-    async def lift_line(self, index: int, times: Times, *, key: str, note: str, line: Called) -> ReplyFields:
+    def lift_line(self, by: Author, called: StampOrKey) -> Operation:
         """Put a line on top, with its present shape."""
-        return await self._make(index, key, note, times, lambda seat, count, about: lift(
-            count, self._find_line(seat, line), about))
+        return lift(by.count, self._find_line(by.seat, called), by.about)
 
-    async def undo(self, index: int, times: Times, *, key: str, note: str, stamp: Called) -> ReplyFields:
+    def undo(self, by: Author, called: StampOrKey) -> Operation:
         """Undo an operation."""
-        def make_operation(seat: SeatReplica, count: int, about: About) -> Operation:
-            undone = self._find_operation(seat, stamp)
-            root = seat.road.record.root_of(undone)
-            if root.excludes is not None and root.site != self.state.site:
-                raise Refused("NothingToUndo", f"only site {root.site} can undo its own exclusion of site {root.excludes[0]}: include "
-                              "that site again instead")
-            if not would_change(seat.road, undone):
-                raise Refused("NothingToUndo", self._why_nothing(seat, undone))
-            return undo(count, undone, about)
-        return await self._make(index, key, note, times, make_operation)
+        undone = self._find_operation(by.seat, called)
+        root = by.seat.road.operations.root_of(undone)
+        if root.excludes is not None and root.site != self.state.site:
+            raise Refused("NothingToUndo", f"only site {root.site} can undo its own exclusion of site {root.excludes[0]}: include "
+                          "that site again instead")
+        if not would_change(by.seat.road, undone):
+            raise Refused("NothingToUndo", self._why_nothing(by.seat, undone))
+        return undo(by.count, undone, by.about)
 
-    async def put_again(self, index: int, times: Times, *, key: str, stamp: Called) -> ReplyFields:
+    def put_again(self, by: Author, called: StampOrKey) -> Operation:
         """Repeat what an operation did to its line, on top of all."""
-        def make_operation(seat: SeatReplica, count: int, about: About) -> Operation:
-            old = self._find_operation(seat, stamp)
-            one = repeat(seat.road, count, old, replace(about, note=old.about.note, more=old.about.more))
-            if one is None:
-                raise Refused("NothingToPut", "an undo cannot be repeated: change the line itself")
-            return one
-        return await self._make(index, key, "", times, make_operation)
+        old = self._find_operation(by.seat, called)
+        again = repeat(by.seat.road, by.count, old, replace(by.about, note=old.about.note, more=old.about.more))
+        if again is None:
+            raise Refused("NothingToPut", "an undo cannot be repeated: change the line itself")
+        return again
 
-    async def exclude_site(self, index: int, times: Times, *, key: str, note: str, site: str, out: bool) -> ReplyFields:
+    def exclude_site(self, by: Author, site: str, out: bool) -> Operation:
         """Ignore all past and future operations of a site if `out` is true; otherwise include them again."""
         if site == self.state.site:
             raise Refused("OwnSite", f"site {site} cannot exclude itself: another site must do it")
-        return await self._make(index, key, note, times, lambda seat, count, about: exclude(count, site, out, about))
+        return exclude(by.count, site, out, by.about)
 
-    def _find_operation(self, seat: SeatReplica, called: Called) -> Operation:
+    def _find_operation(self, seat: SeatReplica, called: StampOrKey) -> Operation:
         """Return an operation that the seat holds, given its stamp or its key."""
         stamp = seat.done.get(called) if isinstance(called, str) else called
         if stamp is None:
             raise Refused("NoSuchChange", f"this seat has made no change with the key {called}")
-        held = self.state.held_by(seat, stamp)
-        if held is None:
+        held = self.state.by_stamp.get(stamp)
+        if held is None or held not in seat.places:
             raise Refused("NoSuchChange", f"this seat holds no change with the stamp {list(stamp)}: if it is somebody else's, `take` first")
         return held
 
-    def _find_line(self, seat: SeatReplica, called: Called) -> Stamp:
+    def _find_line(self, seat: SeatReplica, called: StampOrKey) -> Stamp:
         """Return the name of a line of the seat's list. `called` is that name, or an operation that changed the line."""
         if isinstance(called, tuple) and seat.road.setters_of(called):
             return called
@@ -157,43 +148,43 @@ class Lab:
 
     def _why_nothing(self, seat: SeatReplica, one: Operation) -> str:
         """Return why the undo of an operation would change nothing."""
-        record = seat.road.record
-        if one.site in record.excluded:
+        operations = seat.road.operations
+        if one.site in operations.excluded:
             return f"site {one.site} is excluded, so this change has no effect already"
         by = [other for other in find_overruling(seat.road, one) if other is not one]
-        if not record.counts(one):
-            by = [other for other in record.undos_of(one) if record.counts(other)]
+        if not operations.counts(one):
+            by = [other for other in operations.undos_of(one) if operations.counts(other)]
             return f"{' and '.join(sorted({other.about.who for other in by}))} undid this change already"
         later = sorted({other.about.who for other in by if other.undoes is None})
         return f"{' and '.join(later)} changed its line since" if later else "nothing of this change is in force any more"
 
-    async def _make(self, index: int, key: str, note: str, times: Times, make_operation: MakeOperation) -> ReplyFields:
+    async def make(self, index: int, times: Times, key: str, note: str, make_operation: MakeOperation) -> ReplyFields:
         """Make an operation, at most one for each key. Return the reply when the operation is on the disk."""
-        async def make(write: Write) -> ReplyFields:
+        async def make_once() -> tuple[ReplyFields, Done | None]:
             seat = self.seating.require_owned(index)
             if key in seat.done:  # a tab sends a key again after a lost connection: confirm the operation that it made then
-                write.dones.extend(self._pending.get((index, key), ()))
-                return {"stamp": seat.done[key], "touched": None, "again": True, **self.list_of(seat, seat.version)}
-            await write.require_writable()
+                again: ReplyFields = {"stamp": seat.done[key], "touched": None, "again": True, **self.list_of(seat, seat.version)}
+                return again, self._pending.get((index, key))
+            await self.keeper.require_writable()
             before, version = seat.road, self._list_version(seat)
             one = self._new_operation(seat, note, make_operation)
-            write.record(Made(index, one, key))
-            self._pending[index, key] = write.dones
-            write.dones[-1].add_done_callback(lambda _: self._pending.pop((index, key), None))
-            return {"stamp": one.stamp, "touched": await self._first_difference(before, seat.road), **self.list_of(seat, version)}
-        return await self._write(index, make, times, takes_long=False)
+            done = self._pending[index, key] = self.keeper.record(OwnOperation(index, one, key))
+            done.add_done_callback(lambda _: self._pending.pop((index, key), None))
+            touched = await self._first_difference(before, seat.road)
+            return {"stamp": one.stamp, "touched": touched, **self.list_of(seat, version)}, done
+        return await self._write(index, make_once, times, takes_long=False)
 
     def _new_operation(self, seat: SeatReplica, note: str, make_operation: MakeOperation) -> Operation:
         """Return a new operation. Raise `Refused` if not every site would take it, or if it would change nothing."""
-        one = make_operation(seat, self.keeper.counter.next(), About(seat.name, note, int(time.time()), self.state.site))
+        by = Author(seat, self.keeper.counter.next(), About(seat.name, note, int(time.time()), self.state.site))
         try:
-            one = self.read(one.written())
+            one = self.read(make_operation(by).written())
         except Malformed as fault:
-            raise not_a_command(f"no site would take this change: {fault}") from None
-        if one.site in seat.road.record.excluded and one.excludes is None:
+            raise Refused(fault.refusal, str(fault)) from None
+        if one.site in seat.road.operations.excluded and one.excludes is None:
             raise Refused("SiteExcluded", "this site is excluded: changes made here have no effect until another site includes it again")
         after = seat.road.adding([one])
-        if after.layers == seat.road.layers and after.record.excluded == seat.road.record.excluded:
+        if after.layers == seat.road.layers and after.operations.excluded == seat.road.operations.excluded:
             raise Refused("NoEffect", self._why_no_effect(one))
         return one
 
@@ -210,12 +201,13 @@ class Lab:
         """Return the first step from which two roads differ."""
         return first_step(await self.keeper.differences.between(before, after))
 
-    async def _write(self, turn: int, make: Callable[[Write], Awaitable[T]], times: Times, takes_long: bool | None = None) -> T:
-        """Call `make` in the turn of a seat, and return its result when all entries that it wrote are on the disk. The program gets the
-        edits when it is next asked."""
-        write = Write(self.keeper)
-        made: T = await self.keeper.ask(turn, (), lambda: make(write), takes_long=takes_long)
-        await write.wait_until_written(times)
+    async def _write(self, turn: int, make: Callable[[], Awaitable[tuple[T, Done | None]]], times: Times,
+                     takes_long: bool | None = None) -> T:
+        """Call `make` in the turn of a seat, and return its result when the entry that it wrote, if any, is on the disk. The program gets
+        the edits when it is next asked."""
+        made, done = await self.keeper.ask(turn, (), make, takes_long=takes_long)
+        if done is not None:
+            await wait_until_written(done, times)
         return made
 
     # Lists
@@ -243,14 +235,14 @@ class Lab:
 
     async def share(self, index: int, times: Times, *, stamps: set[Stamp] | None, title: str) -> ReplyFields:
         """Share the operations of a seat with these stamps; without stamps all that have an effect."""
-        async def make(write: Write) -> tuple[list[Stamp], int | None]:
-            seat, shared = self.seating.require_owned(index), self.state.shared
+        async def make() -> tuple[tuple[list[Stamp], int | None], Done | None]:
+            seat, shared, done = self.seating.require_owned(index), self.state.shared, None
             given = seat.shareable() if stamps is None else sendable(seat.road, shared.road, seat.own, stamps)
-            before = shared.road
+            before, found = shared.road, [one.stamp for one in given]
             if given:
-                await write.require_writable()
-                write.record(Share(index, [one.stamp for one in given], seat.name, title, int(time.time())))
-            return [one.stamp for one in given], await self._first_difference(before, shared.road)
+                await self.keeper.require_writable()
+                done = self.keeper.record(Share(index, found, seat.name, title, int(time.time())))
+            return (found, await self._first_difference(before, shared.road)), done
         found, touched = await self._write(index, make, times)
         if found:
             self.keeper.listeners.shared.notify(touched)
@@ -258,19 +250,19 @@ class Lab:
 
     async def take(self, index: int, times: Times) -> ReplyFields:
         """Take all operations that have been shared so far."""
-        async def make(write: Write) -> ReplyFields:
-            seat = self.seating.require_owned(index)
-            await write.require_writable()
+        async def make() -> tuple[ReplyFields, Done | None]:
+            seat, done = self.seating.require_owned(index), None
+            await self.keeper.require_writable()
             version, before, upto = self._list_version(seat), seat.road, seat.upto
             came = self.state.unseen(seat, self.keeper.confirmed)
             if seat.upto < self.keeper.confirmed:
-                write.record(Take(index, self.keeper.confirmed))
+                done = self.keeper.record(Take(index, self.keeper.confirmed))
                 await seat.catch_up()
             shared = self.state.shared
             edits = await self.keeper.differences.between(before, seat.road, (shared.upto(upto), shared.upto(seat.upto)))
             lister = Lister(self.state, seat)
             return {"touched": first_step(edits), "size": len(came),
-                    "changes": [lister.operation(one) for one in came[-MOST_IN_TAKE:]], **self.list_of(seat, version)}
+                    "changes": [lister.operation(one) for one in came[-MOST_IN_TAKE:]], **self.list_of(seat, version)}, done
         return await self._write(index, make, times, takes_long=True)
 
     def unseen_shares(self, index: int, most: int) -> NewsReply:
@@ -284,30 +276,24 @@ class Lab:
                 "shares": [one.reply_fields() for one in shares[-20:]],
                 "changes": [lister.operation(one) for one in fresh[-most:]]}
 
-    async def record_works(self) -> None:
-        """Let every new seat from now on start with all that is shared so far."""
-        await wait_until_written(self.keeper.record(Works(self.keeper.confirmed)), {})
-
     # What comes from other sites
 
     async def receive(self, operations: list[Operation], title: str, times: Times) -> bool:
         """Hold operations of another site, as `read` returns them, on the shared road. Return whether any was new. `times` gets the
         seconds of `work`."""
-        async def make(write: Write) -> int | None:
+        async def make() -> tuple[tuple[bool, int | None], Done | None]:
             shared = self.state.shared
             fresh = [one for one in operations if one not in shared.road]
             if not fresh:
-                return None
-            await write.require_writable()
+                return (False, None), None
+            await self.keeper.require_writable()
             before, began = shared.road, time.thread_time()
-            write.record(Came(fresh, fresh[0].about.who, title, int(time.time()), is_unsent=False))
+            done = self.keeper.record(Arrival(fresh, fresh[0].about.who, title, int(time.time()), is_unsent=False))
             await shared.catch_up()
             touched = await self._first_difference(before, shared.road)
             times["work"] = time.thread_time() - began
-            is_new.append(True)
-            return touched
-        is_new: list[bool] = []
-        touched = await self._write(SHARED, make, times)
+            return (True, touched), done
+        is_new, touched = await self._write(SHARED, make, times)
         if not is_new:
             await wait_until_written(self.keeper.journal.wait_until_written(), times)
             return False
@@ -315,9 +301,5 @@ class Lab:
         return True
 
     def read(self, written: Json) -> Operation:
-        """Return an operation of a seat or of another site. Raise `Malformed` or `Refused` if it is not one that every site takes."""
+        """Return an operation of a seat or of another site. Raise `Malformed` if it is not one that every site takes."""
         return self._checks.read(written)
-
-    async def acknowledge(self, stamps: list[Stamp]) -> None:
-        """Note that these operations came back from the broker, so they need not be sent again."""
-        await wait_until_written(self.keeper.record(CameBack(stamps)), {})

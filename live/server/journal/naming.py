@@ -64,8 +64,3 @@ def new_site(said: str | None) -> str:
     """Return the name of a new site: what --site says, or else the host's name, with random digits."""
     name = re.sub(r"[^A-Za-z0-9.-]", "-", socket.gethostname())[:31] or "site" if said is None else said
     return f"{name}-{secrets.token_hex(4)}"
-
-
-def is_called(site: str, said: str) -> bool:
-    """Return whether a site has the name that --site says."""
-    return site.rpartition("-")[0] == said

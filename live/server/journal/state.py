@@ -15,15 +15,15 @@ from typing import Iterable, Iterator, Mapping
 
 from zegdrut.program.wire import PlanLine
 
-from ..model.changes import all_lines, find_altered_lines, line_of, operations_on
 from ..model.choices import find_forgettable, shareable
+from ..model.lines import all_lines, find_altered_lines, line_of, operations_on
 from ..model.operations import SEATS, Operation, Stamp, Unreadable, intern_int
 from ..model.reading import Malformed
 from ..model.road import Road
-from .journal import CorruptJournal
-from .naming import Counter
-from .records import (JOURNAL_FORM, AllNews, AnyEntry, Came, Clock, Fields, Folder, Keys, Made, News, SeatGiven, Take, Works,
+from .entries import (JOURNAL_FORM, NewsList, Arrival, Clock, Entry, Fields, Folder, Keys, OwnOperation, News, SeatGrant, Take, Works,
                       read_entry)
+from .journal_lines import CorruptJournal
+from .naming import Counter
 
 TAB_FORM = 6  # the protocol of tabs
 SITE_FORM = 4  # the protocol of sites
@@ -39,17 +39,11 @@ NO_PLAN: PlanLine = {"length": 0, "inlets": (), "zones": (), "zone": 0, "exit": 
 
 def plan_value(plan: PlanLine, kind: str, index: int) -> int | None:
     """Return the value that the plan gives an object; None for `start`, which a plan does not set."""
-    if kind == "block":
-        return 0
-    if kind == "watch":
-        return 1
-    if kind == "start":
-        return None
     if kind == "inflow":
         return int(plan["inlets"][index][1])
     if kind in ("limit", "slow"):
         return int(plan["zones"][index][kind == "slow"])
-    raise ValueError(f"no kind of object: {kind}")
+    return {"block": 0, "watch": 1, "start": None}[kind]
 
 
 class Replica:
@@ -275,11 +269,6 @@ class State:
         self._counter.hold(one.stamp[0])
         return self.by_stamp.setdefault(one.stamp, one)
 
-    def hold_own(self, seat: SeatReplica, one: Operation) -> None:
-        """Let a seat hold an operation of its own."""
-        seat.own[one], self.makers[one] = None, seat.index
-        seat.hold([one])
-
     def hold_shared(self, operations: Iterable[Operation], is_unsent: bool, title: str = "") -> list[Operation]:
         """Let the shared road hold operations. Return those that are new there."""
         fresh = self.shared.hold(operations)
@@ -320,11 +309,6 @@ class State:
         """Return the shared operations that the seat has not taken and does not hold already."""
         return [one for one in self.shared.operations(seat.upto, upto) if one not in seat.places]
 
-    def held_by(self, seat: SeatReplica, stamp: Stamp) -> Operation | None:
-        """Return the operation with a stamp if the seat holds it."""
-        one = self.by_stamp.get(stamp)
-        return one if one in seat.places else None
-
     # Forgetting
 
     def forget(self, seat: SeatReplica, kept: int) -> None:
@@ -349,26 +333,26 @@ class State:
 
     # Compaction
 
-    def entries(self) -> Iterator[AnyEntry]:
+    def entries(self) -> Iterator[Entry]:
         """Yield entries that give the same state, each operation once."""
         yield Folder(JOURNAL_FORM, self.plan, self.site)
         yield Clock(self.rate, self.now, self.stop)
         for seat in self.seats[1:]:
             if seat.key:
-                yield SeatGiven(seat.index, seat.name, seat.key, seat.used)
+                yield SeatGrant(seat.index, seat.name, seat.key, seat.used)
         for one in self.shared.places:
             yield self._shared_entry(one)
-        yield AllNews(self.shares)
+        yield NewsList(self.shares)
         if self.works:
             yield Works(self.works)
         for seat in self.seats[1:]:
-            yield from (Made(seat.index, one) for one in self.private(seat))
+            yield from (OwnOperation(seat.index, one) for one in self.private(seat))
             if seat.upto:
                 yield Take(seat.index, seat.upto)
             if seat.done:
-                yield Keys(seat.index, seat.done)
+                yield Keys(seat.index, [*seat.done.items()])
 
-    def _shared_entry(self, one: Operation) -> AnyEntry:
+    def _shared_entry(self, one: Operation) -> Entry:
         if one in self.makers:
-            return Made(self.makers[one], one, is_shared=True, is_unsent=one in self.unsent, title=self.titles.get(one, ""))
-        return Came([one], title=self.titles.get(one, ""), is_unsent=one in self.unsent)
+            return OwnOperation(self.makers[one], one, is_shared=True, is_unsent=one in self.unsent, title=self.titles.get(one, ""))
+        return Arrival([one], title=self.titles.get(one, ""), is_unsent=one in self.unsent)

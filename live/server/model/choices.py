@@ -8,7 +8,7 @@ from .projection import changed_layers
 from .road import Road
 
 
-class Undoable(NamedTuple):
+class UndoChoice(NamedTuple):
     """The operation that the key for undo undoes next, and the undo that the key for redo undoes. `blocked` are newer operations of the
     seat that undo skips, because somebody else has changed their lines since."""
 
@@ -24,10 +24,10 @@ def own_operations(road: Road, own: Collection[Operation]) -> list[Operation]:
 
 def would_change(road: Road, one: Operation) -> bool:
     """Return whether the undo of an operation would change anything."""
-    return one not in road.record.void and road.is_changed_by(road.record.flipped_by_undo(one))
+    return one not in road.operations.void and road.is_changed_by(road.operations.flipped_by_undo(one))
 
 
-def find_undoable(road: Road, own: Collection[Operation]) -> Undoable:
+def find_undoable(road: Road, own: Collection[Operation]) -> UndoChoice:
     """Return what undo and redo of a seat do next. Both skip operations whose undo would change nothing."""
     done: dict[Stamp, Operation] = {}
     undone: dict[Stamp, tuple[Operation, Operation]] = {}  # by the stamp of an undo: the undo, and what it undid
@@ -52,19 +52,19 @@ def find_undoable(road: Road, own: Collection[Operation]) -> Undoable:
         if any(other not in own for other in find_overruling(road, one)):
             blocked.append(one)
     redo = next((one for one, _ in reversed(undone.values()) if would_change(road, one)), None)
-    return Undoable(undo, redo, blocked)
+    return UndoChoice(undo, redo, blocked)
 
 
 def find_overruling(road: Road, one: Operation) -> list[Operation]:
     """Return the operations that overrule this one, so that its undo would change nothing; the newest first."""
-    record = road.record
-    root = record.root_of(one)
-    found = {other for other in record.undos_of(one) if record.counts(other)}
+    operations = road.operations
+    root = operations.root_of(one)
+    found = {other for other in operations.undos_of(one) if operations.counts(other)}
     if root.line is not None:
         found |= {other for other in (road.setter(root.line) if root.sets else None, road.lifter(root.line) if root.top else None)
                   if other is not None}
     if root.excludes is not None:
-        found |= {other for other in record.exclusions if other.excludes is not None and record.counts(other)
+        found |= {other for other in operations.exclusions if other.excludes is not None and operations.counts(other)
                   and other.excludes[0] == root.excludes[0]}
     return sorted(found - {root}, reverse=True)
 
@@ -78,18 +78,18 @@ def shareable(road: Road, shared: Road, own: Collection[Operation], then: Road |
     """Return the private operations that count and would change the shared road, and those of an excluded site: what they would change is
     known only when it is included again. Leave out undos of private operations. `then` is the shared road with all private operations,
     if that is known."""
-    some, out = sendable(road, shared, own), shared.record.excluded
+    some, out = sendable(road, shared, own), shared.operations.excluded
     then = then or shared.adding(some)
-    lines, excluded = changed_layers(shared, then), then.record.excluded ^ out
-    roots = [(one, road.record.root_of(one)) for one in some]
+    lines, excluded = changed_layers(shared, then), then.operations.excluded ^ out
+    roots = [(one, road.operations.root_of(one)) for one in some]
     return [one for one, root in roots if one.site in out or root.line in lines
             or root.excludes is not None and root.excludes[0] in excluded]
 
 
 def sendable(road: Road, shared: Road, own: Collection[Operation], stamps: AbstractSet[Stamp] | None = None) -> list[Operation]:
     """Return the private operations that count, all of them or those with these stamps. Leave out undos of private operations."""
-    return [one for one in private(road, shared, own) if road.record.counts(one)
-            and (one.undoes is None or one.undoes in shared.record.held) and (stamps is None or one.stamp in stamps)]
+    return [one for one in private(road, shared, own) if road.operations.counts(one)
+            and (one.undoes is None or one.undoes in shared.operations.held) and (stamps is None or one.stamp in stamps)]
 
 
 def find_forgettable(road: Road, shared: Road, own: Collection[Operation], kept: int) -> set[Operation]:
@@ -104,11 +104,11 @@ def find_forgettable(road: Road, shared: Road, own: Collection[Operation], kept:
 
 def is_needed(road: Road, one: Operation, gone: set[Operation]) -> bool:
     """Return whether an operation still has an effect if all operations in `gone` are forgotten together."""
-    record = road.record
-    if one.site in record.excluded or one.excludes is not None:
+    operations = road.operations
+    if one.site in operations.excluded or one.excludes is not None:
         return True
-    if one in record.void:
-        return not gone.issuperset(record.undos_of(one))
+    if one in operations.void:
+        return not gone.issuperset(operations.undos_of(one))
     if one.undoes is not None:
-        return record.undone_by(one) not in gone
+        return operations.undone_by(one) not in gone
     return one.line in road.layers or one.line is not None and not gone.issuperset(road.changes_of(one.line))

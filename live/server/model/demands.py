@@ -9,14 +9,14 @@ import math
 from typing import Mapping, Sequence
 
 from .layers import split_by_topmost
-from .operations import END, Json, Operation, Shape, Stamp
+from .operations import END, NO_MORE, Json, Operation, Shape, Stamp
 from .road import Road
 
 DEMAND, PLANNED = "demand", "planned"
 """The names of the fields of an operation: its demand in cars per hour; and whether that is the demand of the road's file."""
 MOST_DEMAND = 10_000.0  # cars per hour
 INFLOW = "inflow"
-Asked = Sequence[tuple[int, "float | None"]]
+DemandOverTime = Sequence[tuple[int, "float | None"]]
 """The demand of an inlet over time, as (step, cars per hour), each in force until the next; None if nobody has asked for one."""
 
 
@@ -24,7 +24,7 @@ def written_demand(demand: float | None, is_planned: bool = False) -> Mapping[st
     """Return the fields of an operation for the demand that its chance stands for, rounded to whole cars per hour as the page shows it;
     none if there is no demand."""
     if demand is None:
-        return {}
+        return NO_MORE
     whole = math.floor(demand + 0.5)
     return {DEMAND: whole, PLANNED: True} if is_planned else {DEMAND: whole}
 
@@ -57,12 +57,12 @@ def is_planned(done: Sequence[Operation]) -> bool:
     return len(done) == 1 and done[0].about.more.get(PLANNED) is True
 
 
-def asked_demands(road: Road, inlets: int) -> list[Asked]:
+def asked_demands(road: Road, inlets: int) -> list[DemandOverTime]:
     """Return the demand of each inlet over time, as far as it was asked for."""
     return [asked_demand(road, inlet) for inlet in range(inlets)]
 
 
-def asked_demand(road: Road, inlet: int) -> Asked:
+def asked_demand(road: Road, inlet: int) -> DemandOverTime:
     """Return the demand of an inlet over time, which is the demand of the topmost layer at each step."""
     found: list[tuple[int, float | None]] = []
     for begin, _, layer in split_by_topmost(road.on_object(INFLOW, inlet), 0, END):

@@ -108,10 +108,11 @@ class Operation:
 
     def written(self) -> dict[str, Json]:
         """Return the operation as a JSON value, in the form of journals and messages. Leave out empty fields, and its own name."""
-        about = self.about
+        about, shape = self.about, self.shape
         fields: dict[str, Json] = {
             "stamp": [*self.stamp], "site": about.site, "layer": None if self.puts else written_stamp(self.line),
-            "shape": None if self.shape is None else written_shape(self.shape), "top": self.top,
+            "shape": None if shape is None else [*shape[:5], [*shape.value] if isinstance(shape.value, tuple) else shape.value],
+            "top": self.top,
             "undoes": written_stamp(self.undoes), "excludes": None if self.excludes is None else [*self.excludes],
             "seen": written_stamp(self.seen), "who": about.who, "note": about.note, "when": about.when}
         return {**{name: value for name, value in fields.items() if value not in EMPTY}, **about.more}
@@ -159,10 +160,6 @@ def sort_by_stamp(operations: Iterable[Operation]) -> list[Operation]:
 
 def written_stamp(stamp: Stamp | None) -> Json:
     return None if stamp is None else [*stamp]
-
-
-def written_shape(shape: Shape) -> Json:
-    return [*shape[:5], [*shape.value] if isinstance(shape.value, tuple) else shape.value]
 
 
 # What people do

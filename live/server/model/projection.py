@@ -52,11 +52,6 @@ def difference_like(known: tuple[Road, Road, Edits], before: Road, after: Road) 
     return {**edits, **difference(before, after, own)}
 
 
-def all_edits(road: Road) -> Edits:
-    """Return all edits of a road, which turn the road of the plan into it."""
-    return difference(road.empty(), road)
-
-
 def changed_layers(before: Road, after: Road) -> set[Stamp]:
     """Return the layers that differ between two roads."""
     old, new = before.layers, after.layers
@@ -100,18 +95,14 @@ def compare_objects(before: Road, after: Road, stretch: Stretch) -> Iterator[tup
     gone, come = set(olds).difference(news), set(news).difference(olds)
     layers = sort_from_top([*news, *gone])
     not_old, not_new = ({place for place, one in enumerate(layers) if one in some} for some in (come, gone))
-    for low, high, here in columns(layers, first, last, single_objects(kind, first, last)):
+    cuts = range(first, last + 1) if kind != "block" else ()  # objects may differ from their neighbours by the plan
+    for low, high, here in columns(layers, first, last, cuts):
         top = next((at for at, place in enumerate(here) if place in not_old or place in not_new), None)
         if top is None or all(one is not None for _, _, one in split_by_topmost(
                 (layers[place] for place in here[:top]), begin - 1, min(END, end + 1))):
             continue  # the layers are the same, or those that differ are completely covered
         yield (low, high, value_changes(before, kind, low, begin, end, (layers[place] for place in here if place not in not_old)),
                value_changes(after, kind, low, begin, end, (layers[place] for place in here if place not in not_new)))
-
-
-def single_objects(kind: str, first: int, last: int) -> range:
-    """Return the objects at which groups of neighbours must be cut, since they may differ from their neighbours by the plan."""
-    return range(first, last + 1) if kind != "block" else range(0)
 
 
 def value_changes(road: Road, kind: str, index: int, begin: int, end: int, layers: Iterable[Layer]) -> dict[int, int]:

@@ -1,7 +1,7 @@
 """Read operations from JSON values, and check every field, so that all other modules can rely on them.
 
 Operations of tabs, of other sites and of journals pass the same checks. Whether their objects and values exist on the road is checked
-elsewhere, by `server.checks`.
+elsewhere, by `server.journal.checks`.
 """
 from __future__ import annotations
 
@@ -25,7 +25,12 @@ T = TypeVar("T")
 
 
 class Malformed(ValueError):
-    """A malformed operation, or a malformed entry of a journal. The text says what is wrong with it."""
+    """A malformed operation, or a malformed entry of a journal. The text says what is wrong with it, `refusal` is the name of the refusal
+    that a tab gets."""
+
+    def __init__(self, why: str, refusal: str = "not a command") -> None:
+        super().__init__(why)
+        self.refusal = refusal
 
 
 def read_operation(value: Json) -> Operation:
@@ -132,10 +137,13 @@ def read_shape(value: Json) -> Shape:
     shape = Shape(word(kind), whole(first, GREATEST_VALUE, "object"), whole(last, GREATEST_VALUE, "object"),
                   whole(begin, GREATEST_VALUE, "step"), None if end is None else whole(end, GREATEST_VALUE, "step"),
                   read_capacity(number) if kind == CAPACITY else whole(number, GREATEST_VALUE, "value"))
-    if shape.first > shape.last or shape.end is not None and shape.end <= shape.begin:
-        raise Malformed("a shape must begin before it ends, and its first object must not be after its last")
+    if shape.first > shape.last:
+        raise Malformed(f"a shape's last {shape.kind}, {shape.last}, is before its first, {shape.first}", "NoObject")
     if shape.last - shape.first >= MOST_OBJECTS:
-        raise Malformed(f"a shape can cover at most {MOST_OBJECTS} objects, not {shape.last - shape.first + 1}")
+        raise Malformed(f"a shape can cover at most {MOST_OBJECTS} objects, not {shape.last - shape.first + 1}: make several "
+                        "smaller shapes", "TooManyObjects")
+    if shape.end is not None and shape.end <= shape.begin:
+        raise Malformed(f"a shape must end after step {shape.begin}, where it begins, not at {shape.end}", "Range")
     return shape
 
 
@@ -152,6 +160,15 @@ def read_exclusion(value: Json) -> tuple[str, bool]:
     if type(is_out) is not bool:
         raise Malformed("an exclusion must be a site and true or false")
     return read_site(site), is_out
+
+
+def list_of(read: Callable[[Json], T]) -> Callable[[Json], Sequence[T]]:
+    """Return the reader of a list whose items `read` reads."""
+    def read_all(value: Json) -> Sequence[T]:
+        if not isinstance(value, list):
+            raise Malformed(f"a list was expected, not {str(value)[:40]}")
+        return [*map(read, value)]
+    return read_all
 
 
 def read_row(value: Json, size: int, why: str) -> Sequence[Json]:

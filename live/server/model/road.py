@@ -10,8 +10,8 @@ from __future__ import annotations
 import weakref
 from typing import AbstractSet, Callable, Iterable
 
-from .counting import NO_OPERATIONS, Record, insert_in_order
 from .layers import Layer, Stretch, parts_of, sort_from_top, touches
+from .operation_set import NO_OPERATIONS, OperationSet, insert_in_order
 from .operations import END, NOTHING, About, Operation, Shape, Stamp, Unreadable, lift, named
 
 Plan = Callable[[str, int], "int | None"]
@@ -31,43 +31,39 @@ class Road:
 
     def __init__(self, plan: Plan) -> None:
         self.plan = plan
-        self.record = Record()
+        self.operations = OperationSet()
         self.layers: dict[Stamp, Layer] = {}
         self.shapes: dict[str, dict[Stamp, Layer]] = {}  # the parts of layers, by kind and name
         self.step: RoadChange | None = None  # how this road was made
         self._changes: dict[Stamp, tuple[Operation, ...]] = {}  # by line, the oldest first; lines that were only put are missing
 
     def __contains__(self, one: Operation) -> bool:
-        return one in self.record
+        return one in self.operations
 
     def changes_of(self, line: Stamp) -> tuple[Operation, ...]:
         """Return the operations that put or change a line, or put it on top, the oldest first, whether they count or not."""
         if line in self._changes:
             return self._changes[line]
-        put = self.record.held.get(line)
+        put = self.operations.held.get(line)
         return (put,) if put is not None and put.puts else ()
 
     def setters_of(self, line: Stamp) -> list[Operation]:
         """Return the operations that give a line a shape or withdraw it, the oldest first, whether they count or not."""
         return [one for one in self.changes_of(line) if one.sets]
 
-    def empty(self) -> Road:
-        """Return the road of the plan alone."""
-        return Road(self.plan)
-
     def copy(self) -> Road:
         road = Road(self.plan)
-        road.record, road.layers = self.record.copy(), dict(self.layers)
+        road.operations, road.layers = self.operations.copy(), dict(self.layers)
         road.shapes, road._changes = {kind: dict(some) for kind, some in self.shapes.items()}, dict(self._changes)
         return road
 
     def adding(self, operations: Iterable[Operation]) -> Road:
         """Return the road with these operations added; this road itself if it holds them all."""
-        some = [one for one in operations if one not in self.record and not isinstance(one, Unreadable)]
+        some = [one for one in operations if one not in self.operations and not isinstance(one, Unreadable)]
         if not some:
             return self
         road = self.copy()
-        fresh, flipped = road.record.add(some)
+        fresh, flipped = road.operations.add(some)
         for one in fresh:
             if one.line is not None:
                 others = road.changes_of(one.line)
@@ -83,11 +79,11 @@ class Road:
 
     def setter(self, line: Stamp, flipped: AbstractSet[Operation] = NO_OPERATIONS) -> Operation | None:
         """Return the operation that gives a line its shape; None if no operation does."""
-        return next((one for one in reversed(self.changes_of(line)) if one.sets and self.record.counts(one, flipped)), None)
+        return next((one for one in reversed(self.changes_of(line)) if one.sets and self.operations.counts(one, flipped)), None)
 
     def lifter(self, line: Stamp, flipped: AbstractSet[Operation] = NO_OPERATIONS) -> Operation | None:
         """Return the operation that gives a line its height; None if it was never put on top."""
-        return next((one for one in reversed(self.changes_of(line)) if one.top and self.record.counts(one, flipped)), None)
+        return next((one for one in reversed(self.changes_of(line)) if one.top and self.operations.counts(one, flipped)), None)
 
     def height_of(self, line: Stamp, flipped: AbstractSet[Operation] = NO_OPERATIONS) -> Stamp:
         """Return the height of a line: the stamp of its last lifter, or else its own name."""
@@ -108,7 +104,7 @@ class Road:
         counted."""
         names = {one.line for one in flipped if one.line is not None}
         return (any(self.layer(name, flipped) != self.layers.get(name) for name in names)
-                or self.record.excluded_if(flipped) != self.record.excluded)
+                or self.operations.excluded_if(flipped) != self.operations.excluded)
 
     def _lay(self, line: Stamp) -> None:
         """Update a layer according to the operations that count."""
@@ -139,8 +135,8 @@ def last_change(road: Road, line: Stamp) -> Stamp | None:
     setter = road.setter(line)
     if setter is not None:
         return setter.stamp
-    undos = [each.stamp for one in road.setters_of(line) for each in road.record.undos_of(one) if road.record.counts(each)]
-    return max(undos, default=line if line in road.record.held else None)
+    undos = [each.stamp for one in road.setters_of(line) for each in road.operations.undos_of(one) if road.operations.counts(each)]
+    return max(undos, default=line if line in road.operations.held else None)
 
 
 def change(road: Road, count: int, line: Stamp, shape: Shape | None, on_top: bool = False, about: About = NOTHING) -> Operation:

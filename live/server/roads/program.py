@@ -19,7 +19,7 @@ from typing import Dict, Mapping, Sequence
 from zegdrut.program.refusals import Reasons
 from zegdrut.program.wire import WrittenEdit
 
-from ..journal.journal import to_json
+from ..journal.journal_lines import to_json
 from ..tabs.refusals import Refused
 
 LONGEST_REPLY = 1 << 26

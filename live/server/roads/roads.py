@@ -1,29 +1,17 @@
-"""The roads that a seat can query: its own, the shared one, and the two of its last preview. A second program simulates the roads of a
-preview."""
+"""The roads that a seat can query: its own, the shared one, and the two of its last preview."""
 from __future__ import annotations
 
-import asyncio
-import time
-from typing import Callable, Protocol, Sequence, TypeVar
+from typing import Protocol, TypeVar
 
-from zegdrut.program.wire import WrittenEdit
-
-from ..figures.figures import TwoDemands
-from ..journal.journal import to_json
 from ..journal.keeper import Keeper
 from ..model.road import Road
-from ..tabs.refusals import Refused
-from .program import ProgramExited, Program, Times, command_of, import_lines, start
-from .turns import Job, More
+from .program import Times
+from .turns import Job
 
-SIDES = ("before", "after")
-MOST_PREVIEWS = 4  # previews that keep a program after an answer
-PREVIEW_UNUSED = 600.0  # seconds without a query after which a preview is dropped
-LET_GO = "the two roads of this preview were dropped"
 T = TypeVar("T")
 
 
-class AskedRoad(Protocol):
+class QueryRoad(Protocol):
     """A road that can be queried."""
 
     name: str
@@ -42,7 +30,7 @@ class AskedRoad(Protocol):
         """Simulate the road up to a step. Return the step that it has reached."""
 
 
-class KeptRoad:
+class ReplicaRoad:
     """The road of a seat or the shared road, queried in the turn of a seat."""
 
     def __init__(self, keeper: Keeper, turn: int, index: int) -> None:
@@ -56,7 +44,7 @@ class KeptRoad:
         return self._keeper.road(self._index)
 
     async def say_all(self, lines: list[bytes], times: Times) -> list[bytes]:
-        return await self._keeper.say_all(lines, times)
+        return await self._keeper.program.say_all(lines, times)
 
     async def advance(self, to: int) -> int:
         wanted = self._keeper.target_steps
@@ -65,156 +53,3 @@ class KeptRoad:
         async def body() -> int:
             return self._keeper.program.horizons.get(self.name, 0)
         return await self.run_job(body)
-
-
-class Preview:
-    """The two roads of a preview, as they were when it was made: their edits, and a program once they are queried."""
-
-    def __init__(self, keeper: Keeper, before: Sequence[WrittenEdit], after: Sequence[WrittenEdit], demands: TwoDemands) -> None:
-        """`before` and `after` are all edits of the two roads."""
-        self._keeper, self.edits, self.demands = keeper, {"before": before, "after": after}, demands
-        self.used = time.monotonic()
-        self.when_idle: Callable[[], None] = lambda: None  # called after each answer
-        self._is_over = False
-        self._program: Program | None = None
-        self._fed = dict.fromkeys(SIDES, 0)
-        self._wanted = dict.fromkeys(SIDES, 0)
-        self._lock = asyncio.Lock()
-
-    @property
-    def has_program(self) -> bool:
-        return self._program is not None
-
-    @property
-    def is_idle(self) -> bool:
-        """Return whether it answers no query at present."""
-        return not self._lock.locked()
-
-    async def prepare_program(self, side: str) -> Program:
-        """Return its program, when that has the edits of a side and has simulated it as far as it shall."""
-        self.used = time.monotonic()
-        program = self._program or await self._start_program()
-        lines = [to_json(line).encode() for line in import_lines(side, self.edits[side])]
-        if lines and not self._fed[side]:
-            await program.ask_all(lines)
-            self._fed[side] = 1
-        while await program.advance(side, self._wanted[side]) < self._wanted[side]:
-            await asyncio.sleep(0)
-        return program
-
-    async def _start_program(self) -> Program:
-        """Start its program. Raise `ProgramExited` if the preview was dropped in the meantime."""
-        if self._is_over:
-            raise ProgramExited(LET_GO)
-        plan: dict[str, object] = {**self._keeper.state.plan, "replicas": list(SIDES)}
-        program = await start(command_of(self._keeper.path, plan), to_json(plan).encode())
-        if self._is_over:
-            program.kill()
-            raise ProgramExited(LET_GO)
-        self._program = program
-        return program
-
-    async def run_job(self, side: str, body: Job[T]) -> T:
-        try:
-            async with self._lock:
-                return await self._run_in_turn(side, body)
-        finally:
-            self.when_idle()
-
-    async def _run_in_turn(self, side: str, body: Job[T]) -> T:
-        try:
-            await self.prepare_program(side)
-            while isinstance(said := await body(), More):
-                pass
-            return said
-        except ProgramExited as fault:
-            self.close()
-            raise no_preview() from fault
-
-    async def say_all(self, lines: list[bytes], times: Times) -> list[bytes]:
-        """Send lines all at once and return the program's replies; raise the first refusal. To be called in a job."""
-        if self._program is None:
-            raise ProgramExited(LET_GO)
-        return await self._program.say_all(lines, times)
-
-    def run_to(self, side: str, to: int) -> None:
-        self._wanted[side] = max(to, self._wanted[side])
-
-    def close(self) -> None:
-        """End its program. The next query starts a new one."""
-        if self._program is not None:
-            self._program.kill()
-        self._program, self._fed = None, dict.fromkeys(SIDES, 0)
-
-    def end(self) -> None:
-        """End its program for good."""
-        self._is_over = True
-        self.close()
-
-
-class Side:
-    """A road of a preview."""
-
-    def __init__(self, preview: Preview, side: str) -> None:
-        self._preview, self.name = preview, side
-
-    @property
-    def edits(self) -> Sequence[WrittenEdit]:
-        """Return all edits of this road, as rows of an import."""
-        return self._preview.edits[self.name]
-
-    async def run_job(self, body: Job[T], at_leisure: bool = False) -> T:
-        return await self._preview.run_job(self.name, body)
-
-    def mark(self) -> None:
-        return None
-
-    async def say_all(self, lines: list[bytes], times: Times) -> list[bytes]:
-        return await self._preview.say_all(lines, times)
-
-    async def advance(self, to: int) -> int:
-        self._preview.run_to(self.name, to)
-
-        async def body() -> int:
-            return to
-        return await self.run_job(body)
-
-
-class Previews:
-    """The latest preview of each seat."""
-
-    def __init__(self) -> None:
-        self._of: dict[int, Preview] = {}
-
-    def put(self, index: int, preview: Preview | None) -> None:
-        """Replace the preview of a seat; None drops it."""
-        old = self._of.pop(index, None)
-        if old is not None:
-            old.end()
-        if preview is not None:
-            preview.when_idle = self._end_programs
-            self._of[index] = preview
-
-    def _end_programs(self) -> None:
-        """End the programs of previews that were not used for longest and answer no query, if too many have one."""
-        running = [one for one in self._of.values() if one.has_program]
-        idle = sorted((one for one in running if one.is_idle), key=lambda one: one.used)
-        for one in idle[:max(0, len(running) - MOST_PREVIEWS)]:
-            one.close()
-
-    def get(self, index: int) -> Preview:
-        """Return the preview of a seat. Raise `Refused` if it has none. Drop other seats' previews that were not used for long."""
-        before = time.monotonic() - PREVIEW_UNUSED
-        for at in [at for at, one in self._of.items() if one.used < before and at != index]:
-            self.put(at, None)
-        if index not in self._of:
-            raise no_preview()
-        return self._of[index]
-
-    def close(self) -> None:
-        for index in list(self._of):
-            self.put(index, None)
-
-
-def no_preview() -> Refused:
-    return Refused("NoPreview", "the two roads of the preview are no longer kept: request a new preview")

@@ -8,7 +8,7 @@ from typing import Deque
 
 from zegdrut.program.wire import WrittenEdit
 
-from ..journal.journal import to_json
+from ..journal.journal_lines import to_json
 from ..model.projection import Edits, difference, difference_like
 from ..model.road import Road
 from .program import Program, import_lines

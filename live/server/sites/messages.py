@@ -4,7 +4,7 @@ from __future__ import annotations
 import json
 from typing import Mapping
 
-from ..journal.journal import to_json
+from ..journal.journal_lines import to_json
 from ..model.operations import Json
 from ..model.reading import Malformed, clean_text, read_row, read_site, read_stamp
 from .sums import MOST_RANGES, Bound

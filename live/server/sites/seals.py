@@ -17,7 +17,7 @@ import re
 import secrets
 from pathlib import Path
 
-from ..journal.journal import CannotStart, to_json
+from ..journal.journal_lines import CannotStart, to_json
 from ..model.operations import Json
 
 SHORTEST_KEY = 16  # bytes

@@ -19,8 +19,9 @@ from types import TracebackType
 from typing import TYPE_CHECKING, Callable, Deque, Iterator, Mapping, NamedTuple, Sequence
 
 from ..background.supervised import supervise
-from ..journal.journal import to_json
-from ..journal.keeper import SHARED
+from ..journal.journal_lines import to_json
+from ..journal.entries import Acknowledgement
+from ..journal.keeper import SHARED, wait_until_written
 from ..journal.lab import Lab
 from ..journal.naming import is_far
 from ..journal.state import SITE_FORM, State
@@ -81,20 +82,18 @@ class Sites:
         self._may_answer = True  # a piece of missing operations was not sent since the last announcement
         self._hashed: tuple[Road, str] | None = None  # a road, and the hash of its values
         self._client = self._new_client()
-        self._tasks: list[asyncio.Task[None]] = []
 
     # Coming and going
 
     async def __aenter__(self) -> Sites:
         self._loop = asyncio.get_running_loop()
         keep_connected(self._client, *self._broker)
-        self._tasks = [supervise("the announcements to other sites", self._announce_forever, self._keeper.report_end)]
+        self._task = supervise("the announcements to other sites", self._announce_forever, self._keeper.listeners.ended.notify)
         return self
 
     async def __aexit__(self, kind: type[BaseException] | None, fault: BaseException | None,
                         trace: TracebackType | None) -> None:
-        for task in self._tasks:
-            task.cancel()
+        self._task.cancel()
         self._client.disconnect()
         await self._loop.run_in_executor(None, self._client.loop_stop)
 
@@ -135,10 +134,10 @@ class Sites:
             self._longest = longest_packet(properties)
             self._seal.begin_run()
             client.subscribe([(f"road/{self._road}/operations", 1), (f"road/{self._road}/sum", 0), (SITES_TOPIC, 0)])
-        self._loop.call_soon_threadsafe(self._is_connected, None if code == 0 else explain_refusal(code))
+        self._loop.call_soon_threadsafe(self._note_connection, code == 0, None if code == 0 else explain_refusal(code))
 
     def _on_gone(self, _client: mqtt.Client, _data: object, _code: object, _properties: object) -> None:
-        self._loop.call_soon_threadsafe(self._is_gone)
+        self._loop.call_soon_threadsafe(self._note_connection, False)
 
     def _on_message(self, _client: mqtt.Client, _data: object, message: mqtt.MQTTMessage) -> None:
         # The broker's thread acknowledges the message when this returns, so wait until the operations are on the disk.
@@ -169,20 +168,15 @@ class Sites:
             return REPEATS
         return run if self._peers.has_heard(run) else STRANGERS
 
-    def _is_connected(self, refusal: str | None) -> None:
-        self._connected = refusal is None
+    def _note_connection(self, is_connected: bool, refusal: str | None = None) -> None:
+        self._connected = is_connected
         if refusal is not None:
             self._say(refusal)
         self._sent.clear()
         self._tell()
-        if self._connected:
+        if is_connected:
             self._announce_site()
-            self._send_unreturned()
-
-    def _is_gone(self) -> None:
-        self._connected = False
-        self._sent.clear()
-        self._tell()
+            self.send_shared()
 
     # What is sent
 
@@ -202,27 +196,21 @@ class Sites:
         """Send operations, in messages of limited size. All operations of a message have the same title."""
         titles = self._keeper.state.titles
         for title, some in itertools.groupby(operations, lambda one: titles.get(one, "")):
-            self._send_titled(list(some), title)
-
-    def _send_titled(self, operations: list[Operation], title: str) -> None:
-        part: list[Json] = []
-        size = 0
-        for one in operations:
-            written = one.written()
-            length = len(to_json(written).encode())
-            if part and size + length > self._longest // 2:
-                self._send_part(part, title)
-                part, size = [], 0
-            part.append(written)
-            size += length
-        if part:
+            part, size = list[Json](), 0
+            for written in (one.written() for one in some):
+                length = len(to_json(written).encode())
+                if part and size + length > self._longest // 2:
+                    self._send_part(part, title)
+                    part, size = [], 0
+                part.append(written)
+                size += length
             self._send_part(part, title)
 
     def _send_part(self, part: list[Json], title: str) -> None:
         more = {"title": title} if title else {}
         self._publish(f"road/{self._road}/operations", {"operations": part, **more}, 1)
 
-    def _send_unreturned(self) -> None:
+    def send_shared(self) -> None:
         """Send the operations that the broker has not returned, in the order of their stamps: new ones at once, others again after
         growing pauses."""
         if not self._connected:
@@ -236,11 +224,8 @@ class Sites:
 
     def _unreturned(self) -> list[Operation]:
         """Return the operations that are on the disk and that the broker has not returned."""
-        return [one for one in self._keeper.state.unsent if self._keeper.is_confirmed(one) and not isinstance(one, Unreadable)]
-
-    def send_shared(self) -> None:
-        """Send what was shared at this site."""
-        self._send_unreturned()
+        places, confirmed = self._keeper.state.shared.places, self._keeper.confirmed
+        return [one for one in self._keeper.state.unsent if places.get(one, confirmed) < confirmed and not isinstance(one, Unreadable)]
 
     def _announce_site(self) -> None:
         self._publish(SITES_TOPIC, {"site": self._keeper.state.site, "host": self._host, "road": self._road,
@@ -257,7 +242,7 @@ class Sites:
     async def announce(self) -> None:
         """Announce this site and the hashes of its operations, and send operations that the broker has not returned."""
         self._announce_site()
-        self._send_unreturned()
+        self.send_shared()
         unsent = self._keeper.state.unsent
         self._sent = {one: when for one, when in self._sent.items() if one in unsent}
         self._may_answer = True
@@ -341,8 +326,8 @@ class Sites:
         for one in written:
             try:
                 good.append(self._lab.read(one))
-            except (Malformed, Refused) as fault:
-                faults.append(fault.why if isinstance(fault, Refused) else str(fault))
+            except Malformed as fault:
+                faults.append(str(fault))
             if thread_time() > began + READ_FOR:
                 self._work += thread_time() - began
                 await asyncio.sleep(2 * READ_FOR)
@@ -374,7 +359,7 @@ class Sites:
         unsent = self._keeper.state.unsent
         back = [one.stamp for one in map(self._keeper.state.intern, operations) if one in unsent]
         if back:
-            await self._lab.acknowledge(back)
+            await wait_until_written(self._keeper.record(Acknowledgement(back)), {})
             self._tell()
         return is_new or bool(back)
 

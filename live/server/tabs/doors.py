@@ -22,7 +22,7 @@ import logging
 import socket
 import ssl
 import time
-from typing import AsyncIterator, Callable, Container, Deque, Iterable, Protocol
+from typing import AsyncIterator, Callable, Container, Coroutine, Deque, Iterable, Protocol
 
 MOST_QUEUED = 64  # connections in a queue
 MOST_QUEUES = 512
@@ -88,10 +88,7 @@ class Doors:
 
     def _hear(self, connection: socket.socket, address: str) -> None:
         """Put a connection into the queue of its address once it has sent something."""
-        task = asyncio.ensure_future(self._wait_for_bytes(connection, address))
-        self._silent[task] = address
-        task.add_done_callback(lambda one: self._silent.pop(one, None))
-        cancel_oldest(self._silent, MOST_SILENT)
+        add_task(self._silent, self._wait_for_bytes(connection, address), address, MOST_SILENT)
 
     async def _wait_for_bytes(self, connection: socket.socket, address: str) -> None:
         async with closed_after_fault(connection):
@@ -123,7 +120,7 @@ class Doors:
                 connection = queue.popleft()
                 if queue:
                     self._waiting[line] = queue
-                self._enter(connection, line[0])
+                add_task(self._entering, self._connect(connection), line[0], MOST_ENTERING)
             await self._come.wait()
 
     async def _wait_to_enter(self) -> None:
@@ -132,12 +129,6 @@ class Doors:
         self._left = min(ENTRY_BURST, self._left + ENTRIES_PER_SECOND * (now - self._at)) - 1
         self._at = now
         await asyncio.sleep(max(0.0, -self._left / ENTRIES_PER_SECOND))
-
-    def _enter(self, connection: socket.socket, address: str) -> None:
-        task = asyncio.ensure_future(self._connect(connection))
-        self._entering[task] = address
-        task.add_done_callback(lambda one: self._entering.pop(one, None))
-        cancel_oldest(self._entering, MOST_ENTERING)
 
     async def _connect(self, connection: socket.socket) -> None:
         has_tls = self._certificate is not None
@@ -159,8 +150,11 @@ class Doors:
         self._waiting.clear()
 
 
-def cancel_oldest(tasks: dict[asyncio.Future[None], str], most: int) -> None:
-    """Cancel the oldest task of the address with the most tasks, if there are too many."""
+def add_task(tasks: dict[asyncio.Future[None], str], work: Coroutine[object, object, None], address: str, most: int) -> None:
+    """Start a task for an address. If there are then more than `most`, cancel the oldest task of the address with the most tasks."""
+    task = asyncio.ensure_future(work)
+    tasks[task] = address
+    task.add_done_callback(lambda one: tasks.pop(one, None))
     if len(tasks) > most:
         counts = collections.Counter(tasks.values())
         worst = max(counts.values())

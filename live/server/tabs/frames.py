@@ -8,7 +8,7 @@ from zegdrut.program.wire import PlanLine, WrittenEdit
 from ..figures.figures import DetectorFigures, Head, Row, TwoTimes
 from ..model.operations import Json, Shape, Stamp
 from ..sites.peers import BrokerState
-from .lines import Act, Line
+from .change_list import ListedOperation, Line
 from .seating import ListedSeat
 
 Day = TypedDict("Day", {"begin": "int | None", "date": "str | None", "zone": "str | None"})
@@ -18,20 +18,20 @@ Welcome = TypedDict("Welcome", {
     "rate": float, "now": int, "stop": int, "ahead": int, "time": float, "most": Mapping[str, int], "broker": "BrokerState | None",
     "trouble": "str | None", "standing": "str | None", "day": Day, "demand_end": "int | None", "road": str,
     "figures": Sequence[Head]}, total=False)
-Blocked = TypedDict("Blocked", {"stamp": Stamp, "by": Sequence[str]})
+SkippedOperation = TypedDict("SkippedOperation", {"stamp": Stamp, "by": Sequence[str]})
 """An operation of the seat that undo skips, and the names of those who changed its line since."""
 NewsFrame = TypedDict("NewsFrame", {
-    "size": int, "from": Sequence[str], "shares": Sequence[Mapping[str, Json]], "changes": Sequence[Act], "touched": "int | None"})
+    "size": int, "from": Sequence[str], "shares": Sequence[Mapping[str, Json]], "changes": Sequence[ListedOperation], "touched": "int | None"})
 """What others shared and the seat has not taken, and the first step that changes."""
-Held = TypedDict("Held", {
+ReplicaOperation = TypedDict("ReplicaOperation", {
     "stamp": Stamp, "site": str, "layer": Stamp, "shape": Shape, "top": bool, "undoes": Stamp, "excludes": Sequence[Json], "seen": Stamp,
     "who": str, "note": str, "when": int, "shared": bool, "seat": int}, total=False)
 """An operation that a replica holds."""
 Frame = TypedDict("Frame", {
     "id": int, "us": Mapping[str, int], "refused": str, "why": str, "seats": Sequence[ListedSeat], "welcome": Welcome,
     "stamp": Stamp, "touched": "int | None", "again": bool, "layers": Sequence[Line], "since": int, "next": int, "more": bool,
-    "undo": "Stamp | None", "redo": "Stamp | None", "blocked": Sequence[Blocked], "size": int, "stamps": Sequence[Stamp],
-    "changes": Sequence[Act], "operations": Sequence[Held], "horizon": int, "cells": str, "rows": Sequence[str],
+    "undo": "Stamp | None", "redo": "Stamp | None", "blocked": Sequence[SkippedOperation], "size": int, "stamps": Sequence[Stamp],
+    "changes": Sequence[ListedOperation], "operations": Sequence[ReplicaOperation], "horizon": int, "cells": str, "rows": Sequence[str],
     "cars": Json, "speeds": int, "edits": Sequence[WrittenEdit], "sums": Sequence[int], "flows": Sequence[DetectorFigures],
     "counts": Json, "from": int, "to": int, "figures": Sequence[Row], "entries": TwoTimes, "days": int, "stopped": bool, "lines": str,
     "html": str, "csv": str, "points": Sequence["tuple[int, float]"], "capacity": float, "now": int,

@@ -8,32 +8,36 @@ from typing import Mapping, Sequence, TypeVar, Union
 
 from zegdrut import Edit
 from zegdrut.figures.lost import find_entry
-from zegdrut.figures.trips import DetectorCount, Window, count_seconds_on
+from zegdrut.figures.trips import Window
 from zegdrut.program.grammar import LAST_HORIZON
 from zegdrut.program.rows import count_cars
-from zegdrut.program.wire import CountReply, WrittenEdit
+from zegdrut.program.wire import WrittenEdit
 
-from ..figures import child, curves, days, figures, report, saving
-from ..figures.figures import DetectorFigures, TwoDemands, TwoRoads
-from ..journal.journal import to_json
+from ..figures import admission, comparison, figures, files, report
+from ..figures.child import Child, wait_for_slot
+from ..figures.figures import DetectorFigures, FiguresAnswer, FiguresQuestion, TwoDemands, TwoRoads
+from ..figures.report import ReportAnswer, ReportQuestion
+from ..journal.journal_lines import to_json
 from ..journal.keeper import SHARED
 from ..journal.lab import Lab
 from ..journal.lab import ReplyFields as Fields
+from ..journal.road_clock import STEPS_AHEAD
 from ..journal.state import Replica
-from ..journal.timing import STEPS_AHEAD
-from ..model.changes import all_lines, find_altered_lines
 from ..model.choices import sendable
 from ..model.demands import asked_demands
+from ..model.lines import all_lines, find_altered_lines
 from ..model.operations import Json, Operation, Stamp, Unreadable
 from ..model.projection import Edits
 from ..model.road import Road
+from ..model.visibility import visible_rectangles
 from ..roads import rows
-from ..roads.plans import clock_of, name_of
 from ..roads.program import LONG_ROAD, Times
-from ..roads.roads import SIDES, KeptRoad, Preview, Previews, AskedRoad, Side
+from ..roads.road_files import clock_of, name_of
+from ..roads.previews import SIDES, Preview, PreviewRoad, Previews
+from ..roads.roads import QueryRoad, ReplicaRoad
 from ..roads.screen import first_step, rows_of
 from ..roads.turns import MORE, Job, More
-from .lines import Line, Lister
+from .change_list import Line, Lister
 from .refusals import Refused
 
 MOST_ROWS, MOST_BYTES = 1_024, 1_100_000  # rows in a reply, and their bytes
@@ -49,38 +53,36 @@ Reply = Union[bytes, Fields]
 T = TypeVar("T")
 
 
-def detector_count(said: CountReply, edits: list[Edit], detector: int, window: Window) -> DetectorCount:
-    """Return what a detector counted in a window, given the program's reply. `edits` are those of detectors, which switch them."""
-    return DetectorCount(said["cars"], said["speeds"], count_seconds_on(edits, detector, window), window.steps)
-
-
 class Questions:
     """Answers the queries of seats, each in the turn of its seat."""
 
     def __init__(self, lab: Lab) -> None:
         self._lab, self._keeper = lab, lab.keeper
-        self._previews, self._days, self._figures = Previews(), days.DayQuestions(), figures.Figures()
-        self._saved, self._curves = saving.Saved(), curves.Curves(lab.keeper.folder)
+        self._previews, self._comparisons = Previews(), comparison.Comparisons()
+        self._figures: Child[FiguresQuestion, FiguresAnswer] = Child("server.figures.figures", figures.NICE)
+        self._reports: Child[ReportQuestion, ReportAnswer] = Child("server.figures.report", report.NICE)
+        self._saved, self._curves = files.Transcripts(), admission.Curves(lab.keeper.folder)
 
-    def road(self, index: int, at: str) -> AskedRoad:
+    def road(self, index: int, at: str) -> QueryRoad:
         """Return a road of a seat. `at` is "own", "shared", or a side of its preview."""
         if at in SIDES:
-            return Side(self._previews.get(index), at)
-        return KeptRoad(self._keeper, index, 0 if at == "shared" else index)
+            return PreviewRoad(self._previews.get(index), at)
+        return ReplicaRoad(self._keeper, index, 0 if at == "shared" else index)
 
     def close(self) -> None:
         self._previews.close()
-        self._days.stop()
+        self._comparisons.stop()
         self._figures.close()
-        self._curves.close()
+        self._reports.close()
+        self._curves.child.close()
 
     def drop_seat(self, index: int) -> None:
         """Drop previews, questions and transcripts of a seat whose tab has gone."""
         self._previews.put(index, None)
-        self._days.stop(index)
+        self._comparisons.stop(index)
         self._saved.drop(index)
 
-    async def ask_program(self, road: AskedRoad, times: Times, verb: str, fields: Mapping[str, Json]) -> bytes:
+    async def ask_program(self, road: QueryRoad, times: Times, verb: str, fields: Mapping[str, Json]) -> bytes:
         """Forward a command to the program, and return its reply."""
         asked: Fields = {"at": road.name, **fields}
         line = to_json({verb: asked}).encode()
@@ -89,7 +91,7 @@ class Questions:
             return (await road.say_all([line], times))[0]
         return await road.run_job(body)
 
-    async def advance(self, road: AskedRoad, to: int) -> Reply:
+    async def advance(self, road: QueryRoad, to: int) -> Reply:
         """Simulate a road up to a step, which may be some hours ahead of the clock."""
         self._require_reachable(to)
         return {"horizon": await road.advance(to)}
@@ -105,7 +107,7 @@ class Questions:
 
     # Rows
 
-    async def diagram(self, road: AskedRoad, times: Times, *, first: int, last: int, every: int,
+    async def diagram(self, road: QueryRoad, times: Times, *, first: int, last: int, every: int,
                       cells: tuple[int, int] | None) -> Reply:
         """Return every n-th row from the step `first` to `last`, with all cells or with the cells from one to another."""
         left, right = cells or (0, self._length - 1)
@@ -120,7 +122,7 @@ class Questions:
         found = await self._rows(road, list(range(first, last + 1, every)), times)
         return rows.diagram_of([row[left:right + 1] for row in found])
 
-    async def _rows(self, road: AskedRoad, steps: list[int], times: Times) -> list[bytes]:
+    async def _rows(self, road: QueryRoad, steps: list[int], times: Times) -> list[bytes]:
         """Return the rows of these steps, which are equally spaced. In each turn of the seat get as many as a reply may have."""
         found: list[bytes] = []
 
@@ -138,7 +140,7 @@ class Questions:
     def _rows_at_once(self) -> int:
         return min(MOST_ROWS, MOST_BYTES // (self._length + 3))
 
-    async def _ask_rows(self, road: AskedRoad, steps: list[int], times: Times) -> list[bytes]:
+    async def _ask_rows(self, road: QueryRoad, steps: list[int], times: Times) -> list[bytes]:
         every = steps[1] - steps[0] if len(steps) > 1 else 1
         if every >= 8 or every >= 2 and self._length >= LONG_ROAD:
             at = to_json(road.name)
@@ -150,7 +152,7 @@ class Questions:
             found += rows.of_diagram((await road.say_all([line.encode()], times))[0])[::every]
         return found
 
-    async def sums(self, road: AskedRoad, times: Times, first: int, last: int) -> Reply:
+    async def sums(self, road: QueryRoad, times: Times, first: int, last: int) -> Reply:
         """Return for each whole minute the time that cars spend on the road, in car-seconds: the sum of the cars in its 60 rows."""
         if first % MINUTE or last % MINUTE or not 0 < last - first <= MOST_MINUTES * MINUTE:
             raise Refused("Range", f"`from` and `to` must be multiples of {MINUTE}, and 1 to {MOST_MINUTES} minutes apart")
@@ -164,13 +166,13 @@ class Questions:
         await self._of_one_road(road, cars, body)
         return {"sums": [sum(cars[begin:begin + MINUTE]) for begin in range(0, len(cars), MINUTE)]}
 
-    async def counts(self, road: AskedRoad, times: Times, *, first: int, last: int, each: int | None) -> Reply:
+    async def counts(self, road: QueryRoad, times: Times, *, first: int, last: int, each: int | None) -> Reply:
         """Return what all detectors count, in spans of `each` steps or as a whole."""
         spans = await self._count_spans(road, times, first, last, each)
         pairs = [[[one["cars"], one["speeds"]] for one in span] for span in spans]
         return {"counts": pairs[0], "flows": spans[0]} if each is None else {"counts": pairs, "flows": spans}
 
-    async def _count_spans(self, road: AskedRoad, times: Times, first: int, last: int,
+    async def _count_spans(self, road: QueryRoad, times: Times, first: int, last: int,
                        each: int | None) -> list[list[DetectorFigures]]:
         """Return what each detector counts, for each span of `each` steps."""
         if first > last:
@@ -185,10 +187,10 @@ class Questions:
         replies, edits = await self._lines(road, lines, times)
         watched = [Edit.read(edit) for edit in edits if edit[0] == "watch"]
         windows = [Window(start, min(last, start + each) if each else last) for start in starts]
-        return [[figures.detector_figures(detector_count(json.loads(replies[place * detectors + detector]), watched, detector, window))
+        return [[figures.detector_figures(json.loads(replies[place * detectors + detector]), watched, detector, window)
                  for detector in range(detectors)] for place, window in enumerate(windows)]
 
-    async def _lines(self, road: AskedRoad, lines: list[bytes], times: Times) -> tuple[list[bytes], Sequence[WrittenEdit]]:
+    async def _lines(self, road: QueryRoad, lines: list[bytes], times: Times) -> tuple[list[bytes], Sequence[WrittenEdit]]:
         """Return the program's replies to lines, and all edits of the road as rows of an import; both are of the same state of the road."""
         found: list[bytes] = []
 
@@ -197,12 +199,12 @@ class Questions:
                 found.extend(await road.say_all(lines[len(found):len(found) + ASKED_AT_ONCE], times))
             return MORE if len(found) < len(lines) else None
         mark = await self._of_one_road(road, found, body)
-        if isinstance(road, Side):
+        if isinstance(road, PreviewRoad):
             return found, road.edits
         assert mark is not None  # (only the roads of a preview never change)
         return found, rows_of(await self._timeline(mark))
 
-    async def _of_one_road(self, road: AskedRoad, found: list[T], body: Job[None]) -> Road | None:
+    async def _of_one_road(self, road: QueryRoad, found: list[T], body: Job[None]) -> Road | None:
         """Call `body`, which appends to `found`, until it is done. If the road changes meanwhile, empty `found` and begin again. Return
         the road's mark."""
         marks: list[Road | None] = []
@@ -300,12 +302,12 @@ class Questions:
                         added: set[Stamp]) -> list[Line]:
         """Return the lines that look different on the road `after`, or on which an added operation has lost, each with what it shows on
         the road `before`."""
-        now, then = (Lister(self._keeper.state, replica, road) for road in (before, after))
+        then = Lister(self._keeper.state, replica, after)
         listed = all_lines(before)
         found: list[Line] = []
         began = time.perf_counter()
         for line in sorted(find_altered_lines(before, after)):
-            said, was = then.line(line), now.shown(line)
+            said, was = then.line(line), visible_rectangles(before, line)
             if "gone" not in said and (said["shown"] != was or any(
                     one["lost"] and one["stamp"] in added for one in said["operations"])):
                 said["was"] = was if line in listed else None
@@ -319,9 +321,12 @@ class Questions:
         """Return the figures of two roads: of the preview if `of` is "preview", else of the shared road and the seat's own."""
         roads = await self._find_both_roads(index, own, of, first, last)
         slots = [f"{index} before", f"{index} after"] if of == "preview" else ["shared", f"{index} own"]
-        return {"from": first, "to": last, **await self._figures.compute(index, roads, slots)}
+        said = await self._figures.ask_in_turn(index, {"roads": roads, "slots": slots, "seconds": figures.SECONDS}, roads["program"])
+        if "done" in said:
+            raise Refused("Busy", f"the figures are computed up to step {said['done']} of {last} so far: ask again")
+        return {"from": first, "to": last, **said}
 
-    async def _find_both_roads(self, index: int, own: Replica, of: str, first: int, last: int) -> TwoRoads:
+    async def _find_both_roads(self, index: int, own: Replica, of: str | None, first: int, last: int) -> TwoRoads:
         """Return two roads and a window, for a program that simulates them."""
         if first >= last:
             raise Refused("Range", f"`from` {first} must be below `to` {last}")
@@ -351,18 +356,15 @@ class Questions:
     async def days(self, index: int, own: Replica, of: str | None, first: int, last: int) -> Reply:
         """Return the figures of two roads over many days, each with its mean and interval. If `of` is None, stop that question."""
         if of is None:
-            return {"stopped": self._days.stop(index)}
-        plan, listeners, number = self._keeper.state.plan, self._keeper.listeners, self._keeper.settings.days
-        if not isinstance(plan["words"], int):
+            return {"stopped": self._comparisons.stop(index)}
+        number = self._keeper.settings.days
+        if not isinstance(self._keeper.state.plan["words"], int):
             raise Refused("OneDay", "this road has fixed random numbers (no seed), so all days are the same: look at the figures of "
                           "this day")
-        question = self._days.begin(index, number, lambda other: self._keeper.state.seats[other].name)
-        try:
-            roads = await self._find_both_roads(index, own, of, first, last)
-            said = await question.answer(roads, lambda: listeners.days.notify(index, question.done, question.days))
-        finally:
-            self._days.end(question)
-        return {"from": first, "to": last, **said}
+        return {"from": first, "to": last, **await self._comparisons.compare(
+            comparison.Comparison(index, number), lambda other: self._keeper.state.seats[other].name,
+            lambda: self._find_both_roads(index, own, of, first, last),
+            lambda done: self._keeper.listeners.days.notify(index, done, number))}
 
     # What is saved
 
@@ -373,10 +375,10 @@ class Questions:
         self._require_reachable(last)
         if piece == 0:
             self._saved.make_room(index)
-            async with child.wait_for_slot(index):
+            async with wait_for_slot(index):
                 name = self._keeper.state.seats[replica.index].name or replica.at
-                lines = saving.script(self._keeper.state.plan, name, rows_of(await self._timeline(replica.road)), first, last)
-                self._saved.put(index, await saving.transcript(self._keeper.path, self._keeper.state.plan, lines))
+                lines = files.script(self._keeper.state.plan, name, rows_of(await self._timeline(replica.road)), first, last)
+                self._saved.put(index, await files.transcript(self._keeper.path, self._keeper.state.plan, lines))
         text, following = self._saved.take(index, piece)
         return {"lines": text, "next": following}
 
@@ -386,29 +388,28 @@ class Questions:
         day, seat = clock_of(self._keeper.folder), self._keeper.state.seats[index]
         roads["names"] = ["before", "after"] if of == "preview" else ["shared", seat.name or seat.at]
         clock = () if day is None else (day.to_text(0), *(None if one is None else str(one) for one in (day.date, day.zone)))
-        made = await report.make_report(index, {"roads": roads, "title": title, "works": works, "clock": clock,
-                                                "days": report.DAYS})
-        return {"from": first, "to": last, **made}
+        asked: ReportQuestion = {"roads": roads, "title": title, "works": works, "clock": clock, "days": report.DAYS}
+        return {"from": first, "to": last, **await self._reports.ask_in_turn(index, asked, roads["program"])}
 
-    async def table_of_counts(self, road: AskedRoad, times: Times, first: int, last: int, each: int) -> Reply:
+    async def table_of_counts(self, road: QueryRoad, times: Times, first: int, last: int, each: int) -> Reply:
         """Return a table of what detectors count, as CSV, for each span of `each` steps."""
         spans = await self._count_spans(road, times, first, last, each)
         title = f"counts of {self._road_name(road.name)}{self._file_and_date()}, {self.say_time(first)} to {self.say_time(last)}"
         windows = [Window(start, min(last, start + each)) for start in range(first, last, each)]
-        return {"csv": saving.table_of_counts(self._keeper.state.plan, title, self.say_time, windows, spans)}
+        return {"csv": files.table_of_counts(self._keeper.state.plan, title, self.say_time, windows, spans)}
 
     def _road_name(self, at: str) -> str:
         """Return what a road is called in saved files."""
         if at == "shared":
             return "the shared road"
         name = next((seat.name for seat in self._keeper.state.seats if seat.at == at), "")
-        return f"the road of {saving.escape_formula(name) or at}"
+        return f"the road of {files.escape_formula(name) or at}"
 
     def _file_and_date(self) -> str:
         """Return the name of the road's file and the date of its `begin`, as far as they are known."""
         folder = self._keeper.folder
         day = clock_of(folder)
-        parts = [saving.escape_formula(name_of(folder)), "" if day is None or day.date is None else str(day.date)]
+        parts = [files.escape_formula(name_of(folder)), "" if day is None or day.date is None else str(day.date)]
         return "".join(f", {one}" for one in parts if one)
 
     def say_time(self, step: int) -> str:
@@ -420,5 +421,5 @@ class Questions:
         """Return the commands that make the same road, up to the clock."""
         to = self._keeper.now()
         name = "shared" if replica.at == "shared" else self._keeper.state.seats[replica.index].name or replica.at
-        edits = rows_of(await self._timeline(replica.road))
-        return {"lines": saving.commands(self._keeper.state.plan, name, edits, to), "to": to}
+        _, lines = files.lines_to(self._keeper.state.plan, name, rows_of(await self._timeline(replica.road)), to)
+        return {"lines": "".join(to_json(line) + "\n" for line in lines), "to": to}

@@ -14,13 +14,12 @@ import secrets
 import time
 from typing import Callable, TypedDict
 
-from ..journal.keeper import A_MOMENT, SHARED, Keeper, NotKept
-from ..journal.records import SeatFreed, SeatGiven, SeatUsed
+from ..journal.entries import SeatRelease, SeatGrant, SeatUse
+from ..journal.keeper import A_MOMENT, SHARED, Keeper, NotKept, wait_until_written
 from ..journal.state import SeatReplica, State
-from ..journal.writing import wait_until_written
 from ..model.operations import SEATS
 from ..model.reading import LONGEST_NAME, clean_text
-from .asked import fold_look_alikes
+from .fields import fold_look_alikes
 from .refusals import Refused
 
 JUMP = 60.0  # seconds that the system's clock must differ from the time that passed, to count as a jump
@@ -43,7 +42,7 @@ class Seating:
         self._giving = asyncio.Lock()
         self.steady = SteadyClock(keeper.settings.day * NOTED)
         self.secret = secrets.token_bytes(16)  # signs keys; nobody else has it
-        self._unkept: dict[int, SeatGiven] = {}  # seats that were given while the disk refused writes
+        self._unkept: dict[int, SeatGrant] = {}  # seats that were given while the disk refused writes
         self._listed: list[ListedSeat] = []  # the last list whose seats were all on the disk
         keeper.listeners.trouble.on(self._keep)
 
@@ -152,8 +151,8 @@ class Seating:
             raise
         return index, key
 
-    def _entry(self, index: int, name: str, key: str, upto: int) -> SeatGiven:
-        return SeatGiven(index, name, digest(key), int(time.time()), upto=upto)
+    def _entry(self, index: int, name: str, key: str, upto: int) -> SeatGrant:
+        return SeatGrant(index, name, digest(key), int(time.time()), upto=upto)
 
     def _sign(self, bits: str, index: int, name: str) -> str:
         """Return a key that contains the seat's number and name, signed. `bits` make it random."""
@@ -170,7 +169,7 @@ class Seating:
             self._note_use(index)
 
     def _note_use(self, index: int) -> None:
-        self._keeper.record(SeatUsed(index, int(time.time())))
+        self._keeper.record(SeatUse(index, int(time.time())))
 
     async def release_seat(self, index: int) -> None:
         """Free a seat when its earlier commands are done. Raise `Refused` if it has changes that are not shared."""
@@ -190,7 +189,7 @@ class Seating:
 
     def _free(self, index: int) -> asyncio.Future[None]:
         self._keeper.target_steps.pop(index, None)
-        return self._keeper.record(SeatFreed(index))
+        return self._keeper.record(SeatRelease(index))
 
     def free_unused(self) -> None:
         """Free the seats that nobody has used for a day and that have no private changes. Write down at intervals which seats are used,

@@ -22,19 +22,18 @@ from zegdrut.program.programs import describe_standing
 
 from ..background.supervised import supervise
 from ..figures.figures import list_heads
-from ..journal.journal import to_json
+from ..journal.journal_lines import to_json
 from ..journal.lab import Lab
+from ..journal.road_clock import STEPS_AHEAD
 from ..journal.state import TAB_FORM
-from ..journal.timing import STEPS_AHEAD
 from ..model.operations import Json
 from ..model.reading import LONGEST_NAME
-from ..roads import plans
+from ..roads import road_files
 from ..roads.program import Times
 from . import verbs
-from .asked import CommandFields
+from .fields import CommandFields
 from .questions import MOST_BYTES, MOST_ROWS, Questions, Reply
 from .refusals import Refused, not_a_command
-from .seating import ListedSeat
 
 if TYPE_CHECKING:
     from aiohttp.web_protocol import RequestHandler
@@ -172,7 +171,7 @@ class Tab:
                 return
             self.has_token = True
             if verb == "seats":
-                self._send({"id": number, "seats": await self._tabs.seats()})
+                self._send({"id": number, "seats": await self._tabs.lab.seating.list_saved_seats()})
             elif self.index is not None:
                 raise not_a_command("this tab has a seat already, so it cannot send `hello` again")
             else:
@@ -242,7 +241,7 @@ class Tabs:
         self._all: set[Tab] = set()
         self.changing: collections.Counter[int] = collections.Counter()  # by seat: commands that change something and are not done
         self._standing = describe_standing(lab.keeper.path)  # a warning if the program is unproved
-        self._broker: Callable[[], BrokerState | None] = lambda: None  # returns the state of the broker
+        self.broker: Callable[[], BrokerState | None] = lambda: None  # returns the state of the broker
         listeners, keeper = lab.keeper.listeners, lab.keeper
         listeners.shared.on(self._news)
         listeners.seats.on(self._seats)
@@ -252,7 +251,7 @@ class Tabs:
         listeners.program.on(lambda: self._tell_all("program", {"changes": keeper.changes, "why": keeper.why_changed}))
         self._ended: str | None = None  # a sentence about a task of the server that has ended a moment ago
         listeners.ended.on(self._show_fault)
-        self._ticks = supervise("the news of the clock", self._tick, keeper.report_end)
+        self._ticks = supervise("the news of the clock", self._tick, listeners.ended.notify)
 
     # Coming and going
 
@@ -278,13 +277,13 @@ class Tabs:
                 "horizon": self.lab.keeper.target_steps.get(index, 0), **self.lab.keeper.clock().fields(), "ahead": STEPS_AHEAD,
                 "time": round(time.time(), 3),
                 "most": {"rows": MOST_ROWS, "bytes": MOST_BYTES,
-                         "days": self.lab.keeper.settings.days}, "broker": self._broker(),
-                "trouble": self._trouble, "standing": self._standing, "day": self._day(), "demand_end": plans.find_profile_end(self.lab.keeper.folder),
-                "road": plans.name_of(self.lab.keeper.folder), "figures": list_heads(state.plan)}
+                         "days": self.lab.keeper.settings.days}, "broker": self.broker(),
+                "trouble": self._trouble, "standing": self._standing, "day": self._day(), "demand_end": road_files.find_profile_end(self.lab.keeper.folder),
+                "road": road_files.name_of(self.lab.keeper.folder), "figures": list_heads(state.plan)}
 
     def _day(self) -> Mapping[str, int | str | None]:
         """Return the time of day at step 0 in seconds after midnight, the date and the time zone, as far as they are known."""
-        clock = plans.clock_of(self.lab.keeper.folder)
+        clock = road_files.clock_of(self.lab.keeper.folder)
         if clock is None:
             return {"begin": None, "date": None, "zone": None}
         date, zone = (None if one is None else str(one) for one in (clock.date, clock.zone))
@@ -375,12 +374,8 @@ class Tabs:
             if tab.index is not None:
                 tab.tell(kind, value)
 
-    def follow_broker(self, state: Callable[[], BrokerState]) -> None:
-        """Take the broker's state from this function from now on."""
-        self._broker = state
-
     def tell_broker(self) -> None:
-        self._tell_all("broker", self._broker())
+        self._tell_all("broker", self.broker())
 
     def _clock(self) -> None:
         self._tell_all("clock", self.lab.keeper.clock().fields())
@@ -412,11 +407,7 @@ class Tabs:
 
     async def _tell_seats(self) -> None:
         with contextlib.suppress(Refused):
-            self._tell_all("seats", await self.seats())
-
-    async def seats(self) -> list[ListedSeat]:
-        """Return the seats that somebody has, once they are on the disk."""
-        return await self.lab.seating.list_saved_seats()
+            self._tell_all("seats", await self.lab.seating.list_saved_seats())
 
     def _news(self, touched: int | None) -> None:
         for tab in self._all:

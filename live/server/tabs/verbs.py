@@ -8,13 +8,15 @@ from typing import Awaitable, Callable, TypeVar
 from zegdrut.program.grammar import LAST_HORIZON
 
 from ..journal.keeper import SHARED
-from ..journal.lab import Lab
+from ..journal.lab import Author, Lab
+from ..journal.road_clock import FASTEST
 from ..journal.state import Replica
-from ..journal.timing import FASTEST
+from ..model.operations import Operation
 from ..model.reading import LONGEST_NOTE
 from ..roads.program import Times
-from ..roads.roads import SIDES, AskedRoad
-from .asked import CommandFields
+from ..roads.previews import SIDES
+from ..roads.roads import QueryRoad
+from .fields import CommandFields
 from .questions import Questions, Reply
 from .refusals import Refused, not_a_command
 
@@ -42,7 +44,7 @@ class Call:
         return self.lab.state.replica(SHARED if self.at == "shared" else self.index)
 
     @property
-    def road(self) -> AskedRoad:
+    def road(self) -> QueryRoad:
         return self.questions.road(self.index, self.at)
 
 
@@ -114,10 +116,6 @@ def read_steps(asked: CommandFields) -> tuple[int, int]:
     return asked.whole("from"), asked.whole("to")
 
 
-def read_key_and_note(asked: CommandFields) -> tuple[str, str]:
-    return asked.key(), asked.text("note", LONGEST_NOTE, "")
-
-
 def read_comparison(asked: CommandFields) -> tuple[str, int, int]:
     """Return which roads a command compares, and the steps."""
     of = asked.require("of")
@@ -140,7 +138,7 @@ async def seats(call: Call) -> Reply:
 def clock(asked: CommandFields) -> Handler:
     rate = asked.number("rate", FASTEST) if asked.has("rate") else None
     to = asked.whole("to") if rate is None else None
-    return lambda call: call.lab.timing.set_clock(rate, to)
+    return lambda call: call.lab.road_clock.set_clock(rate, to)
 
 
 def admission(asked: CommandFields) -> Handler:
@@ -163,38 +161,41 @@ def admission(asked: CommandFields) -> Handler:
 
 # Commands that change, share or take
 
+def making(asked: CommandFields, make: Callable[[Lab, Author], Operation], has_note: bool = True) -> Handler:
+    """Read the key and the note of a command that makes an operation."""
+    key, note = asked.key(), asked.text("note", LONGEST_NOTE, "") if has_note else ""
+    return lambda call: call.lab.make(call.index, call.times, key, note, lambda by: make(call.lab, by))
+
+
 def gesture(asked: CommandFields) -> Handler:
     """Read a gesture: a new shape, or a new shape or height for a line."""
-    key, note = read_key_and_note(asked)
     if not asked.has("layer"):
         new = asked.shape()
         demand = asked.demand(new)
-        return lambda call: call.lab.put_shape(call.index, call.times, key=key, note=note, shape=new, demand=demand)
+        return making(asked, lambda lab, by: lab.put_shape(by, new, demand))
     line, top = asked.stamp_or_key("layer"), asked.flag("top")
     if not asked.has("shape"):
         if not top:
             raise not_a_command("a gesture with a `layer` needs a `shape` (which may be null) or `top`")
-        return lambda call: call.lab.lift_line(call.index, call.times, key=key, note=note, line=line)
+        return making(asked, lambda lab, by: lab.lift_line(by, line))
     shape = None if asked.is_null("shape") else asked.shape()
     said = None if shape is None else asked.demand(shape)
-    return lambda call: call.lab.change_line(call.index, call.times, key=key, note=note, line=line, shape=shape, top=top, demand=said)
+    return making(asked, lambda lab, by: lab.change_line(by, line, shape, top, said))
 
 
 def undo(asked: CommandFields) -> Handler:
-    key, note = read_key_and_note(asked)
     stamp = asked.stamp_or_key("stamp")
-    return lambda call: call.lab.undo(call.index, call.times, key=key, note=note, stamp=stamp)
+    return making(asked, lambda lab, by: lab.undo(by, stamp))
 
 
 def put_again(asked: CommandFields) -> Handler:
-    key, stamp = asked.key(), asked.stamp_or_key("stamp")
-    return lambda call: call.lab.put_again(call.index, call.times, key=key, stamp=stamp)
+    stamp = asked.stamp_or_key("stamp")
+    return making(asked, lambda lab, by: lab.put_again(by, stamp), has_note=False)
 
 
 def exclude_site(asked: CommandFields) -> Handler:
-    key, note = read_key_and_note(asked)
     site, is_out = asked.site(), asked.flag("out")
-    return lambda call: call.lab.exclude_site(call.index, call.times, key=key, note=note, site=site, out=is_out)
+    return making(asked, lambda lab, by: lab.exclude_site(by, site, is_out))
 
 
 def share(asked: CommandFields) -> Handler:

@@ -1,0 +1,298 @@
+// View: the Save menu: the diagram as a picture, a report, what the viewer opens and road_lab runs
+// again, and tables for a spreadsheet.
+
+import {EMPTY, drawLegend, pen} from "../../viewer/drawing.mjs";
+import {ask, askUntilFree} from "./questions.mjs";
+import {comparedNow, daysShown} from "./comparison.mjs";
+import {measureDemands} from "./demand.mjs";
+import {withoutCursor} from "./draft.mjs";
+import {$, activeIn, closest, download, on} from "./elements.mjs";
+import {Words, newestFirst} from "./changetexts.mjs";
+import * as messages from "./messages.mjs";
+import {drawDiagram, legendEntries} from "./picture.mjs";
+import {claimFileName} from "./filenames.mjs";
+import {need, layersOf, now, store, tell} from "./store.mjs";
+import {csvOf, tableOfChanges, tableOfFigures, tableOfTravel} from "./tables.mjs";
+import {METRES_A_CELL, kmText, plural} from "./units.mjs";
+import {partShown, periodShown} from "./view.mjs";
+
+/** @typedef {import("./layers.mjs").Layers} Layers */
+/** @typedef {import("./types.mjs").Refusal} Refusal */
+/** @typedef {import("./types.mjs").Span} Span */
+
+const SPAN_OF_COUNTS = 300;     // steps
+export const CAPTION_HIGH = 24;        // pixels of a picture that is saved, above the diagram
+const LEGEND_HIGH = 28;
+const LEGEND_WIDE = 900;
+
+/** Return the road that is shown; if it is a difference, the own road. */
+const roadShown = () => (store.whose === "shared" ? "shared" : need("me").at);
+
+/** Return what a road is called in the name of a file. */
+const fileRoad = (at = roadShown()) => (at === "shared" ? "shared" : need("me").name);
+
+/** Return a name that no other saved file has: of what it is, the road's file, whose road it is, and
+ * from when to when.
+ * @param {string} what      with an ending
+ * @param {string} whose
+ * @param {Span} period      steps
+ */
+function nameFile(what, whose, period) {
+  const dot = what.lastIndexOf(".");
+  const [stem, ending] = [what.slice(0, dot), what.slice(dot)];
+  const times = period.map((step) => store.day.fileText(Math.round(step)));
+  const road = need("me").road?.replace(/\.[^.]*$/, "") ?? "";
+  const parts = [stem, road, whose, ...times].filter(Boolean).map((part) => part.replace(/[^\p{L}\p{M}\p{N}_]+/gu, "-"));
+  return claimFileName(parts.join("-"), ending);
+}
+
+/** Save a file under a name that no other saved file has. Return that name.
+ * @param {string} what      with an ending
+ * @param {BlobPart[]} lines
+ * @param {string} type
+ * @param {string} [whose]
+ * @param {Span} [period]    steps
+ */
+function saveAs(what, lines, type, whose = fileRoad(), period = periodShown()) {
+  const own = nameFile(what, whose, period);
+  download(lines, own, type);
+  return own;
+}
+
+/** Return a caption that says what the diagram shows, for a reader who has only the picture. */
+export function captionText() {
+  const {name} = need("me");
+  const whose = {mine: `The road of ${name}`, shared: "The shared road",
+                 both: `The road of ${name} minus the shared one`}[store.whose];
+  const {cells, steps} = partShown();
+  const [places, times] = [cells.map(Math.round).map(kmText), steps.map((step) => store.day.timeText(step))];
+  return `${whose}, ${places.join("\u2013")} km, ${times.join("\u2013")}`
+    + (now() < steps[1] ? `; the clock is at ${store.day.timeText(now())}` : "");
+}
+
+/** Return the diagram as shown, without the cursor, between its caption and its legend. */
+function diagramWithLegend() {
+  withoutCursor(drawDiagram);
+  const diagram = $("diagram");
+  const fine = window.devicePixelRatio;
+  const canvas = document.createElement("canvas");
+  canvas.width = Math.max(diagram.width, LEGEND_WIDE * fine);
+  canvas.height = diagram.height + (CAPTION_HIGH + LEGEND_HIGH) * fine;
+  const context = canvas.getContext("2d");
+  if (!context) throw new Error("This browser has no canvas to draw on.");
+  context.fillStyle = EMPTY;
+  context.fillRect(0, 0, canvas.width, canvas.height);
+  context.drawImage(diagram, 0, CAPTION_HIGH * fine);
+  context.setTransform(fine, 0, 0, fine, 0, 0);
+  pen(context, "left");
+  context.fillText(captionText(), 4, CAPTION_HIGH / 2, canvas.width / fine - 8);
+  context.translate(0, canvas.height / fine - LEGEND_HIGH);
+  drawLegend(context, 4, legendEntries());
+  return canvas;
+}
+
+/** Save the diagram as shown. */
+function savePicture() {
+  diagramWithLegend().toBlob((blob) => {
+    if (!blob) {
+      tell(messages.NO_PICTURE, true);
+      return;
+    }
+    const whose = store.whose === "both" ? `${need("me").name}-minus-shared` : fileRoad();
+    const name = saveAs("diagram.png", [blob], "image/png", whose);
+    tell(messages.savedPicture(name));
+  });
+}
+
+/** Return the lines that show the road of the period that is shown, each command before its reply;
+ * null if something was refused.
+ */
+async function transcriptLines() {
+  tell(messages.SAVING);
+  const [at, [from, to]] = [roadShown(), periodShown()];
+  /** @type {string[]} */
+  const pieces = [];
+  /** @type {number | null} */
+  let next = 0;
+  do {
+    /** @type {import("./types.mjs").Answers["transcript"] | Refusal | null} */
+    const said = await askUntilFree({transcript: {at, from, to, ...(next ? {next} : {})}});
+    if (!said || "refused" in said) return null;
+    pieces.push(said.lines);
+    next = said.next;
+  } while (next !== null);
+  return pieces.join("").split("\n").filter(Boolean).map((line) => line + "\n");
+}
+
+/** Save commands and replies in turn, as the viewer opens them. */
+async function saveTranscript() {
+  const lines = await transcriptLines();
+  if (!lines) return;
+  const name = saveAs("transcript.jsonl", lines, "application/jsonl");
+  tell(messages.savedTranscript(name, METRES_A_CELL));
+}
+
+/** Save the commands of both roads, up to the clock, in a file each. */
+async function saveScripts() {
+  const saved = [];
+  for (const at of [need("me").at, "shared"]) {
+    const said = await askUntilFree({script: {at}});
+    if (!said || "refused" in said) return;
+    saved.push(saveAs("script.jsonl", [said.lines], "application/jsonl", fileRoad(at), [0, said.to]));
+  }
+  tell(messages.savedScripts(saved));
+}
+
+/** Return the name of the road's file and its date, if they are known, as the end of a title. */
+const fileAndDate = () => [need("me").road, need("me").day?.date].filter(Boolean)
+  .map((one) => `, ${one}`).join("");
+
+/** Return the title of a table of the two roads.
+ * @param {number} from      step
+ * @param {number} to
+ */
+function comparedText(from, to) {
+  const of = comparedNow() === "preview" ? "the road before and after"
+    : `the road of ${need("me").name} and the shared one`;
+  return `${of}${fileAndDate()}, ${store.day.timeText(from)} to ${store.day.timeText(to)}`;
+}
+
+/** Save the figures of the roads that are compared: those of many days if these are shown. */
+async function saveFigures() {
+  const {at, name} = need("me");
+  const of = comparedNow();
+  const whose = of === "preview" ? "before-after" : `${name}-shared`;
+  const days = daysShown()?.said;
+  const [from, to] = days ? [days.from, days.to] : periodShown();
+  if (to <= from) {
+    tell(messages.NOTHING_COMPUTED, true);
+    return;
+  }
+  if (days) {
+    saveLines(`${comparedText(from, to)}, ${plural(days.days, "day")}`, tableOfFigures(of, days),
+      `figures-${days.days}-days.csv`, whose, [from, to]);
+    return;
+  }
+  const said = await askUntilFree({figures: {at, of, from, to}});
+  if (said && !("refused" in said)) {
+    saveLines(comparedText(from, to), tableOfFigures(of, said), "figures.csv", whose, [from, to]);
+  }
+}
+
+/** Save travel times by the minute of entry, of the roads that are compared. */
+async function saveTravel() {
+  const {at, name} = need("me");
+  const [of, [from, to]] = [comparedNow(), periodShown()];
+  if (to <= from) {
+    tell(messages.NOTHING_COMPUTED, true);
+    return;
+  }
+  const said = await askUntilFree({figures: {at, of, from, to}});
+  if (!said || "refused" in said) return;
+  saveLines(`travel times of ${comparedText(from, to)}`, tableOfTravel(need("plan"), of, said, store.day),
+    "travel-times.csv", of === "preview" ? "before-after" : `${name}-shared`, [from, to]);
+}
+
+/** Save a table.
+ * @param {string} title
+ * @param {(string | number)[][]} lines
+ * @param {string} what      the file's name, with an ending
+ * @param {string} whose
+ * @param {Span} period      steps
+ */
+function saveLines(title, lines, what, whose, period) {
+  tell(messages.savedFile(saveAs(what, [csvOf(title, lines)], "text/csv", whose, period)));
+}
+
+const MOST_SENTENCES = 200;         // lines of a report
+const MOST_CHARACTERS = 200;    // of a line
+
+/** Return the changes of a road that are not withdrawn, in sentences, the oldest first.
+ * @param {Layers} layers
+ */
+const textsOf = (layers) => newestFirst([...layers.changes.values()]
+  .filter(({standing, site, planned}) => standing && site === null && !planned)).reverse()
+  .map((change) => new Words(layers, -1).text(change));
+
+/** Return the changes of the roads that are compared, in sentences: those of the later road, then
+ * those that only the other one has.
+ */
+async function worksText() {
+  const isPreview = comparedNow() === "preview";
+  const both = isPreview ? [layersOf("after"), layersOf(need("preview").takes ? "mine" : "shared")]
+    : [layersOf("mine"), layersOf("shared")];
+  for (const one of both) {
+    await measureDemands(one, (done, all) => tell(messages.measuringDemands(done, all)));
+  }
+  const [after, before] = both.map(textsOf);
+  const gone = before.filter((text) => !after.includes(text));
+  const fresh = after.map((text) => (before.includes(text) ? text : `${text} (new)`));
+  return [...fresh, ...gone.map((text) => `${text} (only before)`)].slice(0, MOST_SENTENCES)
+    .map((text) => text.slice(0, MOST_CHARACTERS));
+}
+
+/** Save the report of the roads that are compared: a page that prints. */
+async function saveReport() {
+  const {at, name, day} = need("me");
+  const [from, to] = periodShown();
+  const of = comparedNow();
+  if (to <= from || (of === "preview" && !store.layers.after)) {
+    tell(messages.NOTHING_COMPUTED, true);
+    return;
+  }
+  const date = day?.date ? `, ${day.date}` : "";
+  const title = `${of === "preview" ? "A road before and after" : `The road of ${name}, and the shared one`}: `
+    + `${store.day.timeText(from)} to ${store.day.timeText(to)}${date}`;
+  const works = await worksText();
+  tell(messages.MAKING_REPORT);
+  const said = await askUntilFree({report: {at, of, from, to, title, works}});
+  if (!said || "refused" in said) return;
+  const whose = of === "preview" ? "before-after" : `${name}-shared`;
+  const saved = saveAs("report.html", [said.html], "text/html", whose, [from, to]);
+  tell(messages.savedReport(saved));
+}
+
+/** Return the name of the road that is shown, for the title of a table. */
+const roadText = () => (roadShown() === "shared" ? "the shared road" : `the road of ${need("me").name}`);
+
+/** Save the history: who did what and when, where it is in force, and what covers it. */
+function saveChanges() {
+  const layers = layersOf(roadShown() === "shared" ? "shared" : "mine");
+  saveLines(`changes of ${roadText()}${fileAndDate()}, up to ${store.day.timeText(now())}`, tableOfChanges(layers), "changes.csv",
+    fileRoad(), [0, now()]);
+}
+
+/** Save the counts of the road that is shown, in the period that is shown: a line for five minutes. */
+async function saveCounts() {
+  const [from, to] = periodShown();
+  if (to <= from) {
+    tell(messages.NOTHING_COMPUTED, true);
+    return;
+  }
+  const said = await ask({csv: {at: roadShown(), what: "counts", from, to, each: SPAN_OF_COUNTS}});
+  if (said && !("refused" in said)) tell(messages.savedFile(saveAs("counts.csv", [said.csv], "text/csv")));
+}
+
+/** Close the menu, which would cover the message. If it has the focus, focus its title. */
+function closeMenu() {
+  const was = activeIn($("save"));
+  $("save").open = false;
+  if (was) $("save").querySelector("summary")?.focus();
+}
+
+/** Listen to the page. */
+export function begin() {
+  on("savePicture", "click", savePicture);
+  on("saveTranscript", "click", saveTranscript);
+  on("saveScript", "click", saveScripts);
+  on("saveReport", "click", saveReport);
+  on("saveFigures", "click", saveFigures);
+  on("saveTravel", "click", saveTravel);
+  on("saveCounts", "click", saveCounts);
+  on("saveChanges", "click", saveChanges);
+  on("save", "click", (event) => { if (closest(event, "button")) closeMenu(); });
+  on("save", "keydown", ({key}) => { if (key === "Escape") closeMenu(); });
+  addEventListener("pointerdown", (event) => {
+    if ($("save").open && !closest(event, "#save")) closeMenu();
+  });
+}

@@ -1,0 +1,90 @@
+// What is kept over a reload: pending changes in the tab's storage, until they are confirmed; and in
+// that of the browser its seats, so that it has them again after it was closed.
+
+/** @typedef {import("./types.mjs").Pending} Pending */
+
+const NAME = "pending";
+
+/** Store the pending gestures of a seat. Return whether that succeeded.
+ * @param {Storage} storage
+ * @param {string} at        the seat
+ * @param {Map<string, Pending>} pending     by key
+ */
+export function storePending(storage, at, pending) {
+  try {
+    storage.setItem(NAME, JSON.stringify({at, acts: [...pending]}));
+    return true;
+  } catch {
+    return false;
+  }
+}
+
+/** Return a gesture that an older page may have stored, as this page has it: its shape was an array, and
+ * `does` had another word for "apply".
+ * @param {Pending} gesture
+ * @returns {Pending}
+ */
+const modernize = (gesture) => ({...gesture, ...(Array.isArray(gesture.shape) ? {shape: null} : {}),
+                             does: gesture.does === "undo" || gesture.does === "redo" ? gesture.does : "apply"});
+
+/** Return the stored gestures, and their seat; "" if nothing is stored.
+ * @param {Storage} storage
+ * @returns {{at: string, gestures: [string, Pending][]}}
+ */
+export function loadPending(storage) {
+  try {
+    /** @type {{at?: string, acts?: [string, Pending][]}} */
+    const found = JSON.parse(storage.getItem(NAME) ?? "{}");
+    const gestures = Array.isArray(found.acts) ? found.acts : [];
+    return {at: found.at ?? "", gestures: gestures.map(([key, gesture]) => [key, modernize(gesture)])};
+  } catch {
+    return {at: "", gestures: []};
+  }
+}
+
+/** Return a text that this browser keeps for this address; "" if it keeps none.
+ * @param {string} name
+ */
+export function remembered(name) {
+  try {
+    return localStorage.getItem(name) ?? "";
+  } catch {
+    return "";
+  }
+}
+
+/** Keep a text in this browser. A browser that keeps nothing forgets it with the tab.
+ * @param {string} name
+ * @param {string} text
+ */
+export function remember(name, text) {
+  try {
+    localStorage.setItem(name, text);
+  } catch {
+    // It asks for a name again, or shows a note again.
+  }
+}
+
+const MOST_SEATS = 8;           // seats that a browser keeps
+/** @typedef {{seat: number, key: string}} KeptSeat */
+
+/** Return the seats that this browser had, the latest last.
+ * @returns {KeptSeat[]}
+ */
+export function loadSeats() {
+  try {
+    /** @type {unknown} */
+    const found = JSON.parse(remembered("seats") || "[]");
+    return Array.isArray(found) ? found : [];
+  } catch {
+    return [];
+  }
+}
+
+/** Keep a seat as the latest.
+ * @param {KeptSeat} kept
+ */
+export function storeSeat({seat, key}) {
+  const seats = [...loadSeats().filter((one) => one.seat !== seat), {seat, key}];
+  remember("seats", JSON.stringify(seats.slice(-MOST_SEATS)));
+}

@@ -1,0 +1,100 @@
+"""Compare two roads over many days, to find out whether a difference is due to the change or to chance.
+
+A day is a seed: it has drivers of its own. As a child, this module answers a `DaysQuestion` with a `DaysAnswer` after each day: the
+figures of the days that are done, over the steps `first` to `last` - 1, as means with 95 % intervals.
+"""
+from __future__ import annotations
+
+import contextlib
+import ctypes
+import signal
+from typing import Awaitable, Callable, Iterator, Sequence, TypedDict
+
+from zegdrut.figures import Value, compare, measure_day
+from zegdrut.figures.days import SEEDS
+from zegdrut.figures.simulation import iterate_days
+from zegdrut.figures.trips import Window
+from zegdrut.reports.report import run_side
+
+from ..tabs.refusals import Refused
+from . import child
+from .figures import Row, TwoRoads, list_of_live, sides_of, write_rows
+
+NICE = 10
+DaysQuestion = TypedDict("DaysQuestion", {"roads": TwoRoads, "days": int})
+DaysAnswer = TypedDict("DaysAnswer", {"done": int, "figures": Sequence[Row]})
+
+
+class Comparison:
+    """A comparison of a seat, and the answer so far."""
+
+    def __init__(self, index: int, days: int) -> None:
+        self.index, self.days = index, days
+        self.answer: DaysAnswer = {"done": 0, "figures": []}
+
+
+class Comparisons:
+    """Works out one comparison at a time, for all seats."""
+
+    def __init__(self) -> None:
+        self._now: Comparison | None = None
+        self._child: child.Child[DaysQuestion, DaysAnswer] = child.Child(__name__, NICE, None)
+
+    async def compare(self, mine: Comparison, name: Callable[[int], str], find_roads: Callable[[], Awaitable[TwoRoads]],
+                      progress: Callable[[int], None]) -> dict[str, object]:
+        """Return the figures of all days; if the comparison is stopped, of those that are done. Stop the seat's former comparison. Call
+        `progress` with the number of days that are done. Raise `Refused` if a comparison of another seat is running; `name` returns its
+        name."""
+        now = self._now
+        if now is not None and now.index != mine.index:
+            raise Refused("Busy", f"{now.days} days are being simulated for {name(now.index)} ({now.answer['done']} done): try again when "
+                          "that is done")
+
+        def hear(answer: DaysAnswer) -> None:
+            mine.answer = answer
+            progress(answer["done"])
+        self.stop()
+        self._now = mine
+        try:
+            roads = await find_roads()
+            if self._now is mine:
+                await self._child.ask({"roads": roads, "days": mine.days}, roads["program"], hear)
+        except Refused:
+            if self._now is mine:
+                raise
+        finally:
+            if self._now is mine:
+                self.stop()
+        done = mine.answer["done"]
+        if not done:
+            raise Refused("Stopped", "the request was stopped before the first day was simulated")
+        return {"days": done, "stopped": done < mine.days, "figures": mine.answer["figures"]}
+
+    def stop(self, index: int | None = None) -> bool:
+        """Stop the comparison of a seat, or of any seat if none is given. Return whether there was one."""
+        if self._now is None or index not in (None, self._now.index):
+            return False
+        self._now = None
+        self._child.close()
+        return True
+
+
+# In the child
+
+def simulate_days(asked: DaysQuestion) -> Iterator[DaysAnswer]:
+    """Simulate both roads with each seed, on all processors but one. Yield the figures after each day."""
+    roads, days = asked["roads"], list[Sequence[Value]]()
+    window, figures, sides = Window(roads["first"], roads["last"]), list_of_live(roads["plan"]), sides_of(roads)
+
+    def make_day(seed: int) -> Sequence[Value]:
+        ctypes.CDLL(None).prctl(1, signal.SIGKILL)  # PR_SET_PDEATHSIG: this process is killed as soon as the one that started it has ended
+        return measure_day(figures, *(run_side(side, seed, window, with_rows=False) for side in sides))
+    first = int(roads["plan"]["words"])
+    with contextlib.closing(iterate_days(make_day, [(first + one) % SEEDS for one in range(asked["days"])])) as running:
+        for _, day in running:
+            days.append(day)
+            yield {"done": len(days), "figures": write_rows(compare(figures, days), roads)}
+
+
+if __name__ == "__main__":
+    child.serve(simulate_days)

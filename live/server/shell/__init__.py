@@ -1,0 +1,1 @@
+"""Take part in a road from the shell: what live/road uses."""

@@ -1,0 +1,158 @@
+"""Write the changes of a folder as SQLite tables, for `sqlite3` and pandas. No table has a key, the token or a secret.
+
+    write_tables(path, read_folder(folder))     all changes of a stopped folder
+    write_tables(path, tables)                  what a seat of a running server can see
+"""
+from __future__ import annotations
+
+import contextlib
+import datetime
+import json
+import os
+import sqlite3
+from pathlib import Path
+from typing import Iterator, Mapping, NamedTuple, Sequence
+
+from zegdrut.program.wire import PlanLine
+from zegdrut.roads.clock import Clock
+from zegdrut.roads.units import KMH, to_km
+
+from ..journal.journal_lines import JOURNAL, CannotStart, Entries, to_json
+from ..journal.state import NO_PLAN, State
+from ..model.operations import Json, Operation, Shape, Stamp, Unreadable, describe_act
+from ..roads import road_files
+
+Row = tuple["int | float | str | None", ...]
+SCHEMA = """
+CREATE TABLE operations (stamp TEXT PRIMARY KEY, count INTEGER, site TEXT, seat INTEGER, who TEXT, note TEXT, made TEXT, does TEXT,
+                         undoes TEXT, shared INTEGER, json TEXT);
+CREATE TABLE shapes (stamp TEXT REFERENCES operations, layer TEXT, kind TEXT, first INTEGER, last INTEGER, begin INTEGER, end INTEGER,
+                     value INTEGER, what TEXT, from_km REAL, to_km REAL, from_time TEXT, to_time TEXT);
+CREATE TABLE seats (seat INTEGER PRIMARY KEY, name TEXT, private INTEGER);
+CREATE TABLE shares (who TEXT, title TEXT, made TEXT, size INTEGER);
+CREATE VIEW changes AS
+    SELECT made, who, does, what, from_km, to_km, from_time, to_time, note, shared, undoes, stamp
+    FROM operations LEFT JOIN shapes USING (stamp) ORDER BY count, stamp;
+"""
+PERCENT = 100 / 65_536  # of a chance
+
+
+class HeldOperation(NamedTuple):
+    """An operation, whether it is shared, and the seat that made it, if that is known."""
+
+    operation: Operation
+    is_shared: bool
+    seat: int | None
+
+
+class Tables(NamedTuple):
+    """The contents of the tables: the plan, the road's time of day, operations, and the rows of seats and shares."""
+
+    plan: PlanLine
+    clock: Clock
+    operations: Sequence[HeldOperation]
+    seats: Sequence[Row]
+    shares: Sequence[Row]
+
+
+def read_state(folder: Path) -> State:
+    """Return the state of a folder, which no server uses. Raise `CannotStart` if its journal cannot be read."""
+    state = State()
+    for entry in Entries(folder / JOURNAL):
+        state.read(entry)
+    if state.plan is NO_PLAN:
+        raise CannotStart(f"{folder} has no journal: give the folder of a server")
+    return state
+
+
+def read_folder(folder: Path) -> Tables:
+    """Return all changes of a folder, which no server uses. Raise `CannotStart` if its journal cannot be read."""
+    state = read_state(folder)
+    held = dict.fromkeys([*state.shared.places, *(one for seat in state.seats for one in seat.own)])
+    operations = [HeldOperation(one, one in state.shared.places, state.makers.get(one)) for one in held if not isinstance(one, Unreadable)]
+    seats = [(seat.index, seat.name, len(seat.shareable())) for seat in state.seats[1:] if seat.key]
+    return Tables(state.plan, road_files.clock_of(folder) or Clock(), operations, seats,
+                  [share_row(one.reply_fields()) for one in state.shares])
+
+
+def share_row(share: Mapping[str, Json]) -> Row:
+    """Return the row of a share, given its fields in a reply."""
+    return str(share["who"]), str(share["title"]), utc_text(share["when"]), json.dumps(share["size"])
+
+
+def write_tables(path: Path, tables: Tables) -> None:
+    """Write a new file that only its owner may read. Raise FileExistsError if there is one already."""
+    os.close(os.open(path, os.O_CREAT | os.O_EXCL | os.O_WRONLY, 0o600))
+    by_stamp = {one.operation.stamp: one.operation for one in tables.operations}
+    try:
+        with contextlib.closing(sqlite3.connect(path)) as database, database:
+            database.executescript(SCHEMA)
+            write_rows(database, "operations", (operation_row(one, by_stamp) for one in tables.operations))
+            write_rows(database, "shapes", (shape_row(one.operation, tables) for one in tables.operations if one.operation.sets))
+            write_rows(database, "seats", tables.seats)
+            write_rows(database, "shares", tables.shares)
+    except BaseException:
+        path.unlink()
+        raise
+
+
+def write_rows(database: sqlite3.Connection, table: str, rows: Iterator[Row] | Sequence[Row]) -> None:
+    for row in rows:
+        database.execute(f"INSERT INTO {table} VALUES ({','.join('?' * len(row))})", row)
+
+
+def operation_row(held: HeldOperation, by_stamp: Mapping[Stamp, Operation]) -> Row:
+    one, about = held.operation, held.operation.about
+    undone = None if one.undoes is None else by_stamp.get(one.undoes)
+    return (stamp_text(one.stamp), one.stamp[0], one.site, held.seat, about.who, about.note, utc_text(about.when), describe_act(one, undone),
+            None if one.undoes is None else stamp_text(one.undoes), int(held.is_shared), to_json(one.written()))
+
+
+def shape_row(one: Operation, tables: Tables) -> Row:
+    """Return the row of the layer that an operation sets."""
+    names = stamp_text(one.stamp), stamp_text(one.line or one.stamp)
+    if one.shape is None:
+        return *names, *[None] * 6, "withdrawn", *[None] * 4
+    kind, first, last, begin, end, value = one.shape
+    return (*names, kind, first, last, begin, end, value[0] if isinstance(value, tuple) else value,
+            describe_value(one.shape, one.about.more.get("demand")), *find_places(tables.plan, kind, first, last),
+            tables.clock.to_date_text(begin), None if end is None else tables.clock.to_date_text(end))
+
+
+def describe_value(shape: Shape, demand: Json) -> str:
+    """Return a value as `live/road NAME put` prints it."""
+    kind, value = shape.kind, shape.value
+    if isinstance(value, tuple):
+        return f"capacity {value[0]} cars/h"
+    if kind == "block":
+        return "closed" if value else "open"
+    if kind == "watch":
+        return f"detector {'on' if value else 'off'}"
+    if kind == "limit":
+        return f"limit {value * KMH:g} km/h"
+    if kind == "inflow" and isinstance(demand, (int, float)):
+        return f"{demand:g} cars/h"
+    word = {"slow": "slowing", "start": "slow-to-start", "inflow": "inflow"}[kind]
+    return f"{word} {value * PERCENT:.4g} %"
+
+
+def find_places(plan: PlanLine, kind: str, first: int, last: int) -> tuple[float, float]:
+    """Return where the objects `first` to `last` of a kind begin and end, in km. An inlet or a detector begins and ends at its cell."""
+    if kind == "block":
+        return to_km(first), to_km(last + 1)
+    if kind == "inflow":
+        return to_km(plan["inlets"][first][0]), to_km(plan["inlets"][last][0])
+    if kind == "watch":
+        return to_km(plan["detectors"][first]), to_km(plan["detectors"][last])
+    return to_km(first * plan["zone"]), to_km(min((last + 1) * plan["zone"], plan["length"]))
+
+
+def stamp_text(stamp: Stamp) -> str:
+    return ".".join(map(str, stamp))
+
+
+def utc_text(when: Json) -> str | None:
+    """Return a time in seconds since 1970 as a date and time of UTC; None if it is missing."""
+    if not isinstance(when, (int, float)) or not when:
+        return None
+    return datetime.datetime.fromtimestamp(when, datetime.timezone.utc).strftime("%Y-%m-%d %H:%M:%S")
