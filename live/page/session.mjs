@@ -39,7 +39,7 @@ export function takeToken() {
 
 /** Connect to the server. */
 export function connect() {
-  const open = () => new WebSocket(location.origin.replace(/^http/, "ws") + "/live");
+  const open = () => new WebSocket(`${location.origin.replace(/^http/, "ws")}/live?${stored("token")}`);
   store.connection = new Connection({open, onOpen: greet, onPush: hear, onLost: noteLost});
   store.connection.connect();
 }
@@ -65,9 +65,8 @@ async function rejoin() {
 
 /** Ask who has a seat. */
 async function askSeats() {
-  const asked = {seats: {token: stored("token")}};
   const said = /** @type {{seats?: Seat[]}} */ (
-    await need("connection").ask(asked).catch(() => ({})));
+    await need("connection").ask({seats: {}}).catch(() => ({})));
   return said.seats ?? [];
 }
 
@@ -84,7 +83,7 @@ export function changeSeat() {
  * @param {boolean} [isTried]     the page tries a key, which may be that of a former server
  */
 async function hello(fields, isTried = false) {
-  const asked = {hello: {token: stored("token"), form: TAB_FORM, ...fields}};
+  const asked = {hello: {form: TAB_FORM, ...fields}};
   const said = /** @type {HelloAnswer | null} */ (await need("connection").ask(asked).catch(() => null));
   if (!said) return;
   store.wishes = null;

@@ -30,9 +30,13 @@ class Frames(Case):
         self.base, _, self.token = self.a6.address.partition("/#")
         self.session = await self.enterAsyncContext(aiohttp.ClientSession())
 
+    async def connect(self, token: str, **headers: str) -> aiohttp.ClientWebSocketResponse:
+        """Connect as a tab that shows this token."""
+        return await self.session.ws_connect(f"{self.base}/live?{token}", headers={"Origin": self.base, **headers})
+
     async def raw(self, *frames: str | bytes, **headers: str) -> list[Any]:
         """Send frames. Return the replies, and at last the code with which the socket was closed, or None."""
-        socket = await self.session.ws_connect(self.base + "/live", headers={"Origin": self.base, **headers})
+        socket = await self.connect(self.token, **headers)
         replies: list[Any] = []
         for frame in frames:
             await (socket.send_str(frame) if isinstance(frame, str) else socket.send_bytes(frame))
@@ -49,7 +53,7 @@ class Frames(Case):
         return [*replies, None]
 
     def hello(self, name: str) -> str:
-        return json.dumps({"id": 0, "hello": {"token": self.token, "name": name}})
+        return json.dumps({"id": 0, "hello": {"name": name}})
 
     async def status(self, path: str, **headers: str) -> int:
         async with self.session.get(self.base + path, headers=headers) as reply:
@@ -63,7 +67,7 @@ class Frames(Case):
                 await self.raw("x", **headers)
             self.assertEqual(caught.exception.status, 403, headers)
         with self.assertRaises(aiohttp.WSServerHandshakeError):
-            await self.session.ws_connect(self.base + "/live")
+            await self.session.ws_connect(f"{self.base}/live?{self.token}")
         self.assertEqual(await self.status("/", Host="evil.example"), 403)
 
     async def test_no_other_files_are_served(self) -> None:
@@ -87,31 +91,19 @@ class Frames(Case):
                     self.assertEqual(reply.headers["Referrer-Policy"], "no-referrer")
 
     async def test_the_token_admits_a_tab(self) -> None:
-        for token in ("", "wrong", self.token[:-1], self.token + "x", "\u00e9", 7, None, [self.token]):
-            frame = json.dumps({"id": 1, "hello": {"token": token, "name": "x"}})
-            self.assertEqual(await self.raw(frame), [1008], token)
-            self.assertEqual(await self.raw(json.dumps({"id": 1, "seats": {"token": token}})), [1008], token)
+        for token in ("", "wrong", self.token[:-1], self.token + "x", "\u00e9", f"token={self.token}", self.token + "&x=1"):
+            socket = await self.connect(token)
+            closed = await asyncio.wait_for(socket.receive(), PATIENCE)
+            self.assertEqual((closed.data, closed.extra),
+                             (1008, "the address has a wrong token: open the address that live/serve printed"), token)
         self.assertEqual(await self.raw('{"id":1,"advance":{"at":"seat1","to":5}}'), [1008])
-        self.assertEqual((await self.raw('{"id":1,"hello":{"name":"x"}}'))[0]["refused"], "not a command")
-
-    async def test_a_person_may_take_long_to_say_a_name(self) -> None:
-        """A tab with the token may take its time. A tab without it is disconnected."""
-        self.a6 = self.server(LIVE_HELLO="5")
-        self.base, _, self.token = self.a6.address.partition("/#")
-        known = await self.session.ws_connect(self.base + "/live", headers={"Origin": self.base})
-        await known.send_json({"id": 1, "seats": {"token": self.token}})
-        self.assertEqual((await known.receive_json())["seats"], [])
-        silent = await self.session.ws_connect(self.base + "/live", headers={"Origin": self.base})
-        self.assertEqual((await asyncio.wait_for(silent.receive(), PATIENCE)).data, 1008)  # the other came before it
-        await known.send_json({"id": 2, "hello": {"token": self.token, "name": "Ada"}})
-        self.assertEqual((await known.receive_json())["welcome"]["name"], "Ada")
-        await known.close()
+        for frame in ('{"id":1,"hello":{"name":"x","token":"x"}}', '{"id":1,"seats":{"token":"x"}}'):
+            self.assertEqual((await self.raw(frame))[0]["refused"], "not a command")
+        self.assertEqual((await self.raw('{"id":1,"seats":{}}'))[0]["seats"], [])
 
     async def test_a_tab_that_never_sends_a_name_is_disconnected_at_last(self) -> None:
-        """Even a tab with the token is: there may be 200 such sockets."""
         self.enterContext(mock.patch("server.tabs.tabs.NAMED", 0.1))
-        tab = Tab(mock.Mock(**{"lab.keeper.settings.hello": 0.1}), mock.Mock(), mock.Mock())
-        tab.has_token = True
+        tab = Tab(mock.Mock(), mock.Mock(), mock.Mock())
         await asyncio.wait_for(tab._require_hello(), PATIENCE)
         self.assertEqual(tab.close_reason, (1008, "no hello"))
 
@@ -137,11 +129,9 @@ class Frames(Case):
         self.assertEqual((await self.raw(self.hello("d"), *["x"] * 40))[-1], 1008)
 
     async def test_an_endless_frame_is_refused_and_not_kept(self) -> None:
-        self.a6 = self.server(LIVE_HELLO=str(10 * PATIENCE))  # so that it is not disconnected for being slow
-        self.base = self.a6.address.partition("/#")[0]
         host = self.base.rpartition("/")[2]
         reader, writer = await asyncio.open_connection("127.0.0.1", int(host.rpartition(":")[2]))
-        writer.write((f"GET /live HTTP/1.1\r\nHost: {host}\r\nOrigin: {self.base}\r\nUpgrade: websocket\r\n"
+        writer.write((f"GET /live?{self.token} HTTP/1.1\r\nHost: {host}\r\nOrigin: {self.base}\r\nUpgrade: websocket\r\n"
                       "Connection: Upgrade\r\nSec-WebSocket-Version: 13\r\n"
                       "Sec-WebSocket-Key: AAAAAAAAAAAAAAAAAAAAAA==\r\n\r\n").encode())
         await asyncio.wait_for(reader.readuntil(b"\r\n\r\n"), PATIENCE)
@@ -273,7 +263,7 @@ class Crowds(Case):
             self.assertEqual(address_group(one) == address_group(other), is_one, (one, other))
 
     def test_strangers_are_at_most_64_of_an_address_and_512_in_all_for_a_minute(self) -> None:
-        """Beyond these numbers the oldest are cut. A tab with the token does not count as a stranger."""
+        """Beyond these numbers the oldest are cut. A tab does not count as a stranger."""
         ones: list[Connection] = []
         strangers = Strangers(lambda: ones, lambda: set(ones[:2]))
 
@@ -290,7 +280,7 @@ class Crowds(Case):
         self.assertEqual(come(["c"], 123).count(True), 2 + 1)
 
     async def test_sockets_without_a_token_lock_nobody_out(self) -> None:
-        """Many sockets send nothing, never finish a request, or never say hello. Tabs that had joined stay."""
+        """Many sockets send nothing, never finish a request, or show no token. Tabs that had joined stay."""
         server = self.server()
         base, _, _ = server.address.partition("/#")
         host = base.rpartition("/")[2]
@@ -309,8 +299,8 @@ class Crowds(Case):
             self.assertEqual((await ada.reply("ping"))["pong"], {})
 
     async def test_a_flood_from_its_own_address_keeps_no_tab_out(self) -> None:
-        """Some 690 connections a second come that send nothing, are closed at once, or ask for the page. A tab tries three times, since
-        it is cut if this process is too slow to say hello."""
+        """Some 690 connections a second come that send nothing, are closed at once, ask for the page, or ask for a tab without the
+        token."""
         server = self.server()
         host = server.address.partition("/#")[0].rpartition("/")[2]
         flood = ("import socket, sys, time\nheld = []\nbegin = time.time()\n"
@@ -320,18 +310,14 @@ class Crowds(Case):
                  "    one.close() if sys.argv[3] == 'close' else held.append(one)\n"
                  "    one.sendall(sys.argv[3].encode()) if sys.argv[3].startswith('GET') else None\n"
                  "    held = held[-500:]\n")
-        for said in ("", "close", f"GET / HTTP/1.1\r\nHost: {host}\r\n\r\n"):
+        upgrade = ("Upgrade: websocket\r\nConnection: Upgrade\r\nSec-WebSocket-Version: 13\r\n"
+                   f"Sec-WebSocket-Key: AAAAAAAAAAAAAAAAAAAAAA==\r\nOrigin: http://{host}\r\n")
+        for said in ("", "close", f"GET / HTTP/1.1\r\nHost: {host}\r\n\r\n", f"GET /live HTTP/1.1\r\nHost: {host}\r\n{upgrade}\r\n"):
             process = started([sys.executable, "-c", flood, *host.split(":"), said])
             await asyncio.sleep(2)
             for number in range(5):
-                for is_last in (False, False, True):
-                    try:
-                        async with server.seat(f"{said[:5]} {number}") as seat:
-                            self.assertEqual((await seat.reply("ping"))["pong"], {})
-                        break
-                    except (ConnectionError, aiohttp.ClientError):
-                        if is_last:
-                            raise
+                async with server.seat(f"{said[:9].strip()} {number}") as seat:
+                    self.assertEqual((await seat.reply("ping"))["pong"], {})
             self.assertIsNone(process.poll())
             end(process)
 

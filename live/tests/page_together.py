@@ -2,7 +2,6 @@
 from __future__ import annotations
 
 import asyncio
-import time
 
 from brokers import reference
 from browsers import FREE_ROAD, FREEWAY, BrowserCase, Tab, operations_of, shapes_of
@@ -345,13 +344,12 @@ class TwoTabs(BrowserCase):
         self.assertEqual([entry["seat"]["seat"] for entry in self.server.journal() if "seat" in entry], [1, 2])
 
     def test_a_seat_can_be_taken_over(self) -> None:
-        ada, ben = self.open(FREE_ROAD, LIVE_HELLO="5")
+        ada, ben = self.open(FREE_ROAD)
         ada.limit("1", "0:20", "0:30")
         ada.script("sessionStorage.clear(), localStorage.clear()")
         ada.driver.get("about:blank")
         ada.driver.get(self.server.address)
         ada.until(lambda: ada.part("seats").is_displayed(), "the seats")
-        time.sleep(6)  # somebody who takes long to say a name can join all the same
         self.assertEqual([one.text for one in ada.part("seatList").find_elements(By.TAG_NAME, "button")],
                          ["Ada, seat 1, 1 change not shared"])
         ada.press("Ada, seat 1")

@@ -17,7 +17,6 @@ class Settings:
     day: float = 86_400  # seconds after which an unused seat is freed
     days: int = 20  # days (seeds) of a comparison over many days
     watch: float = 0.2  # seconds of processor time; a piece of work that takes longer is logged
-    hello: float = 10  # seconds within which a tab must show the token
     gives_way: int = 1  # whether figures, days and curves are computed at low priority, with one processor left to the server
     milliseconds: int | None = None  # a constant clock for stamps, in milliseconds since 1970
 

@@ -63,9 +63,9 @@ class Seat:
         self._session = aiohttp.ClientSession()
         try:
             self._socket = await self._session.ws_connect(
-                self._base + "/live", headers={"Origin": self._base}, max_msg_size=LONGEST_ANSWER, ssl=self._ssl)
+                f"{self._base}/live?{self._token}", headers={"Origin": self._base}, max_msg_size=LONGEST_ANSWER, ssl=self._ssl)
             self._reader = asyncio.create_task(self._read())
-            self.welcome = (await self.say("hello", token=self._token, **self._hello))["welcome"]
+            self.welcome = (await self.say("hello", **self._hello))["welcome"]
         except BaseException:
             await self._session.close()
             raise

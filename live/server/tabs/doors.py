@@ -1,41 +1,44 @@
 """Accept connections from each address in turn, so that no address locks the others out.
 
-    doors = Doors(sockets, protocol, certificate)
+    doors = Doors(sockets, protocol, certificate, token)
     doors.open()
     await doors.serve()             never returns
     doors.close()
     strangers = Strangers(connections, known)
-    await strangers.watch()         closes connections that do not show the token in time
+    await strangers.watch()         closes connections that do not become tabs in time
 
-A connection waits for its first bytes, and then in a queue of its address: tabs in one, requests for the page in another. So connections
-that send nothing, that are closed at once, or that ask for the page, keep no tab of their own address out. If too many wait, the oldest
-are closed. Only a few connections may be in their TLS handshake, since each takes
-a third of a megabyte.
+A connection waits for its first bytes, and then in a queue of its address: those that show the token in one, all others in another. So
+connections without the token keep no tab of their own address out. (With TLS the first bytes do not show it.) If too many wait, the
+oldest are closed. Only a few connections may be in their TLS handshake, since each takes a third of a megabyte.
 """
 from __future__ import annotations
 
 import asyncio
 import collections
 import contextlib
+import hmac
 import ipaddress
 import logging
+import re
 import socket
 import ssl
 import time
+import urllib.parse
 from typing import AsyncIterator, Callable, Container, Coroutine, Deque, Iterable, Protocol
 
 MOST_QUEUED = 64  # connections in a queue
 MOST_QUEUES = 512
-TAB = b"GET /live "  # the beginning of a tab's request; with TLS it cannot be seen
+REQUEST = re.compile(rb"GET /live\?(\S*) ")  # the beginning of a tab's request, with its token
+LONGEST_START = 512  # bytes in which the token must come
 ENTRY_BURST, ENTRIES_PER_SECOND = 128, 100  # connections that may enter in a burst, and per second
 MOST_SILENT = 256  # connections before their first bytes
 MOST_ENTERING = 64  # connections in their TLS handshake
 HANDSHAKE = 10.0  # seconds for the first bytes, and again for the handshake
 TLS_SHUTDOWN = 5.0  # seconds for the TLS shutdown
 AT_A_TIME = 256  # connections that are accepted before other work has its turn
-MOST_UNKNOWN_OF_ADDRESS, MOST_UNKNOWN = 64, 512  # connections without the token, of an address, and of all addresses
-SHORT = 60.0  # seconds in which a connection must show the token
-LOOK_EVERY = 0.2  # seconds between two looks at connections without the token
+MOST_UNKNOWN_OF_ADDRESS, MOST_UNKNOWN = 64, 512  # connections that are not tabs, of an address, and of all addresses
+SHORT = 60.0  # seconds in which a connection must become a tab
+LOOK_EVERY = 0.2  # seconds between two looks at connections that are not tabs
 TOO_MANY = 0.5  # seconds until the next try if the system has no more sockets
 
 
@@ -48,14 +51,15 @@ class Connection(Protocol):
 
 
 Line = tuple[str, bool]
-"""Whose queue it is: an address, and whether it is for tabs."""
+"""Whose queue it is: an address, and whether it is for those that show the token."""
 
 
 class Doors:
     """Listening sockets, and the queues of connections that wait to enter."""
 
-    def __init__(self, sockets: list[socket.socket], protocol: Callable[[], asyncio.Protocol], certificate: ssl.SSLContext | None) -> None:
-        self._sockets, self._protocol, self._certificate = sockets, protocol, certificate
+    def __init__(self, sockets: list[socket.socket], protocol: Callable[[], asyncio.Protocol], certificate: ssl.SSLContext | None,
+                 token: str) -> None:
+        self._sockets, self._protocol, self._certificate, self._token = sockets, protocol, certificate, token
         self._waiting: collections.OrderedDict[Line, Deque[socket.socket]] = collections.OrderedDict()
         self._silent: dict[asyncio.Future[None], str] = {}  # tasks that wait for first bytes, the oldest first, and their addresses
         self._entering: dict[asyncio.Future[None], str] = {}  # tasks in the TLS handshake, in the same way
@@ -94,10 +98,11 @@ class Doors:
         async with closed_after_fault(connection):
             async with asyncio.timeout(HANDSHAKE):
                 await wait_for_first_bytes(connection)
-            said = connection.recv(len(TAB), socket.MSG_PEEK)
+            said = connection.recv(LONGEST_START, socket.MSG_PEEK)
             if not said:
                 raise ConnectionError("the other end has closed the connection")
-            self._put(connection, (address, said == TAB))
+            request = REQUEST.match(said)
+            self._put(connection, (address, request is not None and is_token(request[1].decode("latin-1"), self._token)))
 
     def _put(self, connection: socket.socket, line: Line) -> None:
         """Put a connection into its queue. Close the oldest one if the queue is full."""
@@ -187,6 +192,11 @@ async def wait_for_first_bytes(connection: socket.socket) -> None:
         loop.remove_reader(connection)
 
 
+def is_token(said: str, token: str) -> bool:
+    """Return whether the query of a request, in percent-encoding, is the token."""
+    return hmac.compare_digest(urllib.parse.unquote_to_bytes(said), token.encode())
+
+
 def address_group(address: str) -> str:
     """Return the address, or for IPv6 its /64 network, since one host may have all addresses of such a network."""
     if ":" not in address:
@@ -196,10 +206,10 @@ def address_group(address: str) -> str:
 
 
 class Strangers:
-    """Closes connections that have not shown the token: the oldest if there are too many, and all after a time."""
+    """Closes connections that are not tabs: the oldest if there are too many, and all after a time."""
 
     def __init__(self, connections: Callable[[], Iterable[Connection]], known: Callable[[], Container[Connection]]) -> None:
-        """`connections` returns all connections, `known` those that have shown the token."""
+        """`connections` returns all connections, `known` those of tabs."""
         self._connections, self._known = connections, known
         self._since: dict[Connection, float] = {}
 

@@ -63,8 +63,12 @@ class CommandFields:
         return self
 
     def __exit__(self, kind_of_fault: object, *_: object) -> None:
+        if kind_of_fault is None:
+            self.refuse_unknown()
+
+    def refuse_unknown(self) -> None:
         unknown = [name for name in self._fields if name not in self._known]
-        if kind_of_fault is None and unknown:
+        if unknown:
             raise not_a_command(f"`{self.verb}` has no field {shown(unknown[0])}")
 
     def has(self, name: str) -> bool:

@@ -9,7 +9,6 @@ import asyncio
 import collections
 import contextlib
 import functools
-import hmac
 import json
 import logging
 import socket as sockets
@@ -31,6 +30,7 @@ from ..model.reading import LONGEST_NAME
 from ..roads import road_files
 from ..roads.program import Times
 from . import verbs
+from .doors import is_token
 from .fields import CommandFields
 from .questions import MOST_BYTES, MOST_ROWS, Questions, Reply
 from .refusals import Refused, not_a_command
@@ -45,11 +45,11 @@ MOST_PENDING = 8  # commands of a tab that may wait
 MOST_CHANGING = 2 * MOST_PENDING  # waiting commands of a seat that change something, including those of former tabs
 FLOOD_PAUSE = 0.01  # seconds that a tab is not read after each frame too many
 MOST_FAULTS = 20  # malformed frames
-MOST_TABS = 200  # tabs that have shown the token
+MOST_TABS = 200
 FRAME_PATIENCE = 20.0  # seconds for a tab to read a frame, and to answer a ping
 CLOSE_PATIENCE = 5.0  # seconds for a tab to close its end, once it has been told why
 ABNORMAL = 1006  # the close code of a socket whose other end has not sent a close frame
-NAMED = 900.0  # seconds from the token to `hello`, while a person types a name
+NAMED = 900.0  # seconds to `hello`, while a person types a name
 BUFFER = 262_144  # bytes for a tab in the kernel's send buffer
 TOLD_EVERY = 0.2  # seconds between two news of a running clock
 STANDS = 60.0  # seconds for which the page says that a task of the server has ended
@@ -68,7 +68,7 @@ class Tab:
         self._wake, self._read = asyncio.Event(), asyncio.Event()
         self._faults = 0
         self._asked: dict[asyncio.Future[None], str] = {}  # tasks that answer, and their commands
-        self._is_entering = self.has_token = False
+        self._is_entering = False
         self._tasks: list[asyncio.Task[None]] = []
         self.close_reason = 1000, "ended"
 
@@ -107,9 +107,7 @@ class Tab:
         return to_json({kind: self._news.pop(kind)()})
 
     async def _require_hello(self) -> None:
-        await asyncio.sleep(self._tabs.lab.keeper.settings.hello)
-        if self.has_token:
-            await asyncio.sleep(NAMED)
+        await asyncio.sleep(NAMED)
         if self.index is None and not self._is_entering:
             self.disconnect(1008, "no hello")
 
@@ -166,11 +164,8 @@ class Tab:
         self._is_entering = True
         try:
             asked = CommandFields(verb, fields)
-            if not hmac.compare_digest(str(asked.require("token")).encode("utf-8", "replace"), self._tabs.token.encode()):
-                self.disconnect(1008, "the address has a wrong token: open the address that live/serve printed")
-                return
-            self.has_token = True
             if verb == "seats":
+                asked.refuse_unknown()
                 self._send({"id": number, "seats": await self._tabs.lab.seating.list_saved_seats()})
             elif self.index is not None:
                 raise not_a_command("this tab has a seat already, so it cannot send `hello` again")
@@ -301,15 +296,18 @@ class Tabs:
             self._seats()
 
     def known(self) -> set[RequestHandler]:
-        """Return the connections that have shown the token."""
-        return {tab.connection for tab in self._all if tab.has_token}
+        """Return the connections of all tabs."""
+        return {tab.connection for tab in self._all}
 
     async def socket(self, request: web.Request) -> web.WebSocketResponse:
-        """Serve a tab on a new WebSocket until the tab goes."""
-        if len(self.known()) >= MOST_TABS:
+        """Serve a tab on a new WebSocket until the tab goes, if it shows the token."""
+        if len(self._all) >= MOST_TABS:
             raise web.HTTPServiceUnavailable(text=f"{MOST_TABS} tabs are open, which is the limit: close one")
         socket = web.WebSocketResponse(max_msg_size=LONGEST_FRAME + 1, heartbeat=2 * FRAME_PATIENCE, compress=False)
         await socket.prepare(request)
+        if not is_token(request.rel_url.raw_query_string, self.token):
+            await self._close_socket(request, socket, 1008, "the address has a wrong token: open the address that live/serve printed")
+            return socket
         socket_of(request).setsockopt(sockets.SOL_SOCKET, sockets.SO_SNDBUF, BUFFER)
         tab = Tab(self, socket, request.protocol)
         self._all.add(tab)
@@ -317,13 +315,12 @@ class Tabs:
             await tab.serve()
         finally:
             self._unregister(tab)
-        await self._close_socket(request, socket, tab)
+        await self._close_socket(request, socket, *tab.close_reason)
         return socket
 
-    async def _close_socket(self, request: web.Request, socket: web.WebSocketResponse, tab: Tab) -> None:
+    async def _close_socket(self, request: web.Request, socket: web.WebSocketResponse, code: int, why: str) -> None:
         """Tell the tab why, and wait for some seconds until it has closed its end; discard what it still sends. If the socket were closed
         at once with unread data, the system would reset the connection, and the tab would not learn why."""
-        code, why = tab.close_reason
         try:
             async with asyncio.timeout(1):
                 await socket.close(code=code, message=why.encode())
