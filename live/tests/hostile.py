@@ -4,10 +4,13 @@ from __future__ import annotations
 import asyncio
 import contextlib
 import json
+import math
 import os
+import statistics
 import sys
+import time
 from pathlib import Path
-from typing import Any
+from typing import Any, AsyncIterator
 from unittest import mock
 
 import aiohttp
@@ -20,6 +23,8 @@ from server.tabs.doors import Strangers, address_group
 from server.tabs.tabs import Tab, parse_frame
 from running import PATIENCE, SMALL, Case, Server, end, started, transport_of, until
 from working import takes_at_most
+
+TURNS = 6  # at most, to find out how long a gesture takes
 
 
 class Frames(Case):
@@ -255,6 +260,29 @@ class Connection(asyncio.Transport):
         self.transport = None
 
 
+MOST = 690  # connections a second of a flood
+USUAL = 0.004  # seconds that a gesture takes on a machine that has nothing else to do
+# The requests of these connections. The connections of the kind `close` are closed at once.
+UPGRADE = ("Origin: http://{host}\r\nUpgrade: websocket\r\nConnection: Upgrade\r\nSec-WebSocket-Version: 13\r\n"
+           "Sec-WebSocket-Key: AAAAAAAAAAAAAAAAAAAAAA==\r\n")
+FLOODS = {"silent": "", "close": "", "page": "GET / HTTP/1.1\r\nHost: {host}\r\n\r\n",
+          "tab": "GET /live HTTP/1.1\r\nHost: {host}\r\n" + UPGRADE + "\r\n"}
+FLOOD = """
+import socket, sys, time
+_, host, port, kind, request, rate = sys.argv
+held, begin = [], time.monotonic()
+for number in range(1_000_000):
+    time.sleep(max(0, begin + number / int(rate) - time.monotonic()))
+    try:
+        one = socket.create_connection((host, int(port)))
+        one.close() if kind == "close" else held.append(one)
+        one.sendall(request.encode()) if request else None
+    except ConnectionError:  # the server has closed it already
+        pass
+    held = held[-500:]
+"""
+
+
 class Crowds(Case):
     def test_a_network_of_one_host_counts_as_one_address(self) -> None:
         for one, other, is_one in (("1.2.3.4", "1.2.3.5", False), ("2001:db8::1", "2001:db8::ffff:2", True), ("::1", "::1", True),
@@ -298,28 +326,54 @@ class Crowds(Case):
             await until(lambda: self.are_few(server), "most of them are cut")
             self.assertEqual((await ada.reply("ping"))["pong"], {})
 
-    async def test_a_flood_from_its_own_address_keeps_no_tab_out(self) -> None:
-        """Some 690 connections a second come that send nothing, are closed at once, ask for the page, or ask for a tab without the
-        token."""
-        server = self.server()
-        host = server.address.partition("/#")[0].rpartition("/")[2]
-        flood = ("import socket, sys, time\nheld = []\nbegin = time.time()\n"
-                 "for number in range(1_000_000):\n"
-                 "    time.sleep(max(0, begin + number / 690 - time.time()))\n"
-                 "    one = socket.create_connection((sys.argv[1], int(sys.argv[2])))\n"
-                 "    one.close() if sys.argv[3] == 'close' else held.append(one)\n"
-                 "    one.sendall(sys.argv[3].encode()) if sys.argv[3].startswith('GET') else None\n"
-                 "    held = held[-500:]\n")
-        upgrade = ("Upgrade: websocket\r\nConnection: Upgrade\r\nSec-WebSocket-Version: 13\r\n"
-                   f"Sec-WebSocket-Key: AAAAAAAAAAAAAAAAAAAAAA==\r\nOrigin: http://{host}\r\n")
-        for said in ("", "close", f"GET / HTTP/1.1\r\nHost: {host}\r\n\r\n", f"GET /live HTTP/1.1\r\nHost: {host}\r\n{upgrade}\r\n"):
-            process = started([sys.executable, "-c", flood, *host.split(":"), said])
-            await asyncio.sleep(2)
-            for number in range(5):
-                async with server.seat(f"{said[:9].strip()} {number}") as seat:
+    async def test_a_flood_from_its_own_address_keeps_no_tab_out_and_slows_no_gesture(self) -> None:
+        """A gesture takes at most twice as long as during the same flood at another server. A slow machine gets a slower flood. A tab tries
+        three times, since it is cut if this process is too slow to send its request."""
+        server, other = self.server(), self.server()
+        async with server.seat("Ada") as ada:
+            for kind in FLOODS:
+                rate = round(MOST / max(1.0, await self.median(ada, other, kind, MOST) / USUAL))
+                quiet = loud = math.inf
+                for _ in range(TURNS):
+                    quiet = min(quiet, await self.median(ada, other, kind, rate))
+                    loud = min(loud, await self.median(ada, server, kind, rate))
+                    if loud <= 2 * quiet:
+                        break
+                self.assertLessEqual(loud, 2 * quiet, f"{kind}: {1e3 * loud:.1f} ms instead of {1e3 * quiet:.1f} ms")
+                async with self.flood(server, kind, rate):
+                    await asyncio.sleep(2)
+                    for number in range(5):
+                        await self.enter(server, f"{kind} {number}")
+
+    async def enter(self, server: Server, name: str) -> None:
+        for tries_left in (2, 1, 0):
+            try:
+                async with server.seat(name) as seat:
                     self.assertEqual((await seat.reply("ping"))["pong"], {})
-            self.assertIsNone(process.poll())
-            end(process)
+                return
+            except (ConnectionError, aiohttp.ClientError):
+                if not tries_left:
+                    raise
+
+    async def median(self, seat: Seat, server: Server, kind: str, rate: int) -> float:
+        """Return the median time of a gesture during a flood at this server."""
+        took = list[float]()
+        async with self.flood(server, kind, rate):
+            await asyncio.sleep(1)
+            for number in range(40):
+                began = time.perf_counter()
+                await seat.ask("gesture", key=os.urandom(8).hex(), shape=["limit", 2, 2, 50, None, number % 5])
+                took.append(time.perf_counter() - began)
+        return statistics.median(took)
+
+    @contextlib.asynccontextmanager
+    async def flood(self, server: Server, kind: str, rate: int) -> AsyncIterator[None]:
+        """Open connections to a server in this block, so many a second. Fail if that ends before the block does."""
+        host = server.address.partition("/#")[0].rpartition("/")[2]
+        process = started([sys.executable, "-c", FLOOD, *host.split(":"), kind, FLOODS[kind].format(host=host), str(rate)])
+        yield
+        self.assertIsNone(process.poll(), "the flood ended")
+        end(process)
 
     async def are_few(self, server: Server) -> bool:
         """Return whether the server has few files and sockets open."""
