@@ -175,11 +175,11 @@ class Brokers(Case):
             await put(sam, "limit", 2, 5, 4)  # counts are not spent
             self.assertLess((await put(ada, "limit", 3, 6, 3))[0], 10)
             await self.same(ada, sam, edits=3)
-            good = written(7, shape=["limit", 4, 4, 9, None, 2], who="Eve", note="by a script")
+            good = written(7, shape=["limit", 4, 4, 9, None, 2], who="Eve", note="by a script", seat=1, shared=False)
             broker.say(topic, said(7, good, {}))
             await self.same(ada, sam, edits=4)  # the valid operations of a message are taken
             came = (await ada.ask("operations", at="shared"))["operations"][-1]
-            self.assertEqual((came["who"], came["note"]), ("Eve", "by a script"))
+            self.assertEqual([came[name] for name in ("who", "note", "seat", "shared")], ["Eve", "by a script", None, True])
 
     async def is_told(self, why: str, *seats: Seat) -> bool:
         return all(any(why in sentence for sentence in told(seat)) for seat in seats)

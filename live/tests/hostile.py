@@ -368,7 +368,7 @@ class Crowds(Case):
 
     @contextlib.asynccontextmanager
     async def flood(self, server: Server, kind: str, rate: int) -> AsyncIterator[None]:
-        """Open connections to a server in this block, so many a second. Fail if that ends before the block does."""
+        """Open `rate` connections a second to a server in this block. Fail if that ends before the block does."""
         host = server.address.partition("/#")[0].rpartition("/")[2]
         process = started([sys.executable, "-c", FLOOD, *host.split(":"), kind, FLOODS[kind].format(host=host), str(rate)])
         yield

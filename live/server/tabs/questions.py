@@ -242,10 +242,7 @@ class Questions:
                 if size > PIECE_OF_LIST:
                     after, more = place, True
                     break
-                written: dict[str, object] = {**one.written(), "shared": one in state.shared.places}
-                if one in state.makers:
-                    written["seat"] = state.makers[one]
-                texts.append(to_json(written))
+                texts.append(to_json({**one.written(), "shared": one in state.shared.places, "seat": state.makers.get(one)}))
                 size += len(texts[-1])
             return f'{{"operations":[{",".join(texts)}],"next":{after},"more":{to_json(more)}}}'.encode()
         return await self._keeper.ask(index, (), body)
