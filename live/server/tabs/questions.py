@@ -242,7 +242,8 @@ class Questions:
                 if size > PIECE_OF_LIST:
                     after, more = place, True
                     break
-                texts.append(to_json({**one.written(), "shared": one in state.shared.places, "seat": state.makers.get(one)}))
+                written: dict[str, object] = {**one.written(), "shared": one in state.shared.places, "seat": state.makers.get(one)}
+                texts.append(to_json(written))
                 size += len(texts[-1])
             return f'{{"operations":[{",".join(texts)}],"next":{after},"more":{to_json(more)}}}'.encode()
         return await self._keeper.ask(index, (), body)
