@@ -250,8 +250,8 @@ class Freeways(Case):
     def of_recipe(self, path: Path) -> Any:
         """Return the recipe's road in cells and steps."""
         from zegdrut.commands.freeway import FIGURES
-        from zegdrut.roads.freeway import make_roads
-        return make_roads(FIGURES.override(path), None)[0]
+        from zegdrut.roads.freeway import make_road
+        return make_road(FIGURES.override(path))
 
     def test_an_unreadable_file_is_refused_and_leaves_nothing(self) -> None:
         free: dict[str, Any] = {**KM, "main": 0}

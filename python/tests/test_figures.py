@@ -8,7 +8,7 @@ import unittest
 from typing import Callable
 
 from zegdrut import Car, Fault, Plan, RoadLab
-from zegdrut.figures import (Figure, Mean, Of, RoadRun, Value, choose, compare, list_figures, measure_day, read_run, simulate_days)
+from zegdrut.figures import (FREEWAY, Figure, Mean, Of, RoadRun, Value, choose, compare, list_figures, measure_day, read_run, simulate_days)
 from zegdrut.figures.queues import with_lost
 from zegdrut.figures.trips import Window
 
@@ -22,8 +22,8 @@ Edits = list[tuple[str, int, int, int]]
 class Watched:
     """A run that was watched step by step: the cars of each row, and when each car entered, passed each detector and left."""
 
-    def __init__(self, lab: RoadLab, first: int, edits: Edits, demands: list[list[tuple[int, float]]], waiting: list[list[int]]) -> None:
-        self.first, self.demands, self.waiting = first, demands, waiting
+    def __init__(self, lab: RoadLab, first: int, edits: Edits, demands: list[list[tuple[int, float]]], waiting: list[list[int]], origin: int) -> None:
+        self.first, self.demands, self.waiting, self.origin = first, demands, waiting, origin
         self.rows: list[list[Car]] = [lab.cars("A", step) for step in range(LAST + 1)]
         self.speeds: list[list[tuple[int, int]]] = [[] for _ in DETECTORS]
         self.arrivals: dict[tuple[int | None, int], int] = {}
@@ -63,8 +63,8 @@ class Watched:
     def seconds(self, numbers: set[int]) -> int:
         return sum(car.number in numbers for row in self.rows[self.first + 1:] for car in row)
 
-    def hours(self) -> float:
-        return sum(map(len, self.rows[self.first + 1:])) / 3_600
+    def hours(self, first: int = 0, last: int = 120) -> float:
+        return sum(first <= car.cell < last for row in self.rows[self.first + 1:] for car in row) / 3_600
 
     def seen(self, detector: int | None) -> list[int]:
         assert detector is not None
@@ -97,7 +97,8 @@ def total(ask: Callable[[int, int, int], float], first: int) -> float:
 
 
 OF_ROAD: dict[str, Callable[[Watched, Of], float | None]] = {
-    "hours": lambda run, of: run.hours(),
+    "hours": lambda run, of: run.hours(first=run.origin),
+    "approach hours": lambda run, of: run.hours(last=run.origin),
     "wait": lambda run, of: sum(run.waiting[of.inlet or 0][run.first:]) / 3_600,
     "wait queue": lambda run, of: max(run.waiting[of.inlet or 0][run.first:]),
     "wait end": lambda run, of: next(((step - run.first + 1) / 60 for step in range(LAST - 1, run.first - 1, -1) if run.waiting[of.inlet or 0][step]), None),
@@ -107,7 +108,7 @@ OF_ROAD: dict[str, Callable[[Watched, Of], float | None]] = {
         sum(cars[run.first:]) for inlet, cars in enumerate(run.waiting) if inlet != of.inlet)) / 3_600,
     "queue": lambda run, of: max(run.queues(of.inlet or 0)),
     "left": lambda run, of: sum(place is None and step >= run.first for (place, _), step in run.arrivals.items()),
-    "entered": lambda run, of: len(run.numbers),
+    "entered": lambda run, of: sum(number // 16 >= run.first for number in run.numbers),
     "demand": lambda run, of: total(run.demand, run.first),
     "demand at": lambda run, of: run.demand(of.inlet or 0, run.first, LAST),
     "admitted": lambda run, of: total(run.admitted, run.first),
@@ -128,8 +129,8 @@ OF_CHANGE: dict[str, Callable[[Watched, Watched, Of], list[float | None]]] = {
 """By a figure's key: what it is before a change and after it, and what the change costs."""
 
 
-def run_day(chance: random.Random, first: int) -> tuple[list[RoadRun], list[Watched], list[Figure]]:
-    """Run a random road before and after a closure, with a detector that is off for a while."""
+def run_day(chance: random.Random, first: int, origin: int) -> tuple[list[RoadRun], list[Watched], list[Figure]]:
+    """Run a random road before and after a closure, with a detector that is off for a while. Its first `origin` cells are an approach."""
     plan = Plan(length=120, inlets=[(cell, chance.randrange(4_000, 24_000)) for cell in INLETS], zone=30,
                 zones=[(chance.randrange(2, 6), chance.randrange(16_000)) for _ in range(4)], detectors=DETECTORS, words=chance.randrange(1_000))
     off = chance.randrange(60, 200)
@@ -143,9 +144,10 @@ def run_day(chance: random.Random, first: int) -> tuple[list[RoadRun], list[Watc
             for kind, index, step, value in all_edits:
                 lab.edit("A", (kind, index), step, value)
             lab.advance("A", LAST)
-            runs.append(dataclasses.replace(read_run(lab, "A", Window(first, LAST), demands, period=70), waiting=dict(enumerate(waiting))))
-            watched.append(Watched(lab, first, all_edits, demands, waiting))
-            figures = list_figures(lab.plan)
+            run = read_run(lab, "A", Window(first, LAST), demands, period=70, origin=origin)
+            runs.append(dataclasses.replace(run, waiting=dict(enumerate(waiting))))
+            watched.append(Watched(lab, first, all_edits, demands, waiting, origin))
+            figures = list_figures(lab.plan, FREEWAY._replace(origin=origin))
     return runs, watched, figures
 
 
@@ -158,7 +160,7 @@ class Table(unittest.TestCase):
         """Every figure has an oracle here, and equals it. Each oracle gives a number on some of the roads."""
         chance, known = random.Random(3), set()
         for case in range(4):
-            runs, watched, figures = run_day(chance, first=case % 2 * 80)
+            runs, watched, figures = run_day(chance, first=case % 2 * 80, origin=case // 2 * 30)
             for figure, value in zip(figures, measure_day(figures, *runs)):
                 what = case, figure.title, figure.of
                 wanted = (OF_CHANGE[figure.key](watched[0], watched[1], figure.of) if figure.key in OF_CHANGE

@@ -13,7 +13,7 @@ from zegdrut.program.wire import Fields
 from zegdrut.reports.report import Side, make_table, run_side
 from zegdrut.roads.capacity import measure_outflow
 from zegdrut.roads.demand import Drivers
-from zegdrut.roads.waiting import Queue, find_arrivals, find_narrow_zone, let_wait, name_by_arrival
+from zegdrut.roads.waiting import Queue, find_arrivals, find_narrow_zone, let_wait, make_waiting_roads, name_by_arrival
 from zegdrut.commands.freeway import FIGURES
 
 LAST, ALWAYS = 2_400, 65_536
@@ -183,6 +183,8 @@ class Waiting(unittest.TestCase):
         self.assertEqual(find_narrow_zone(800, [dataclasses.replace(FIGURES, length=6, sections=[])]), 200)
         self.assertEqual(find_narrow_zone(150, [dataclasses.replace(FIGURES, length=6, sections=[])]), 150)
         self.assertEqual(find_narrow_zone(400, [dataclasses.replace(FIGURES, length=6, sections=[], zone=3)]), 400)
+        for zone, wanted in ((None, 200), (3, 400)):
+            self.assertEqual([road.zone for road in make_waiting_roads([dataclasses.replace(FIGURES, length=6, sections=[], zone=zone)])], [wanted])
 
 
 if __name__ == "__main__":

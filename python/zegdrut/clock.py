@@ -1,4 +1,4 @@
 """Give the module `zegdrut.roads.clock` its public name."""
 from .roads.clock import (
-    ACCEPTED as ACCEPTED, Clock as Clock, DAY as DAY, InvalidTime as InvalidTime, TIME as TIME, format_offset as format_offset,
+    ACCEPTED as ACCEPTED, Clock as Clock, DAY as DAY, InvalidTime as InvalidTime, TIME as TIME,
     read_clock_time as read_clock_time, read_date as read_date, read_zone as read_zone)

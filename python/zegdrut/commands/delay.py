@@ -11,7 +11,8 @@
     --minutes N    the period of entry in minutes (default: 1)
     --out FOLDER   the folder of the tables (default: out/)
 
-If the folder of BEFORE has a file units.json, such as recipes/freeway writes, its "metres" and "seconds" are the defaults.
+If the folder of BEFORE has a file units.json, such as recipes/freeway writes, its "metres" and "seconds" are the defaults, "origin" is
+the cell at km 0, and "begin" the step at minute 0.
 
 Cars that cannot enter wait before their inlet, and their waiting is part of the delay (`zegdrut.roads.waiting` has the rule). If cars wait,
 a car's entry is its arrival at the inlet, and the tables have rows for the queues.
@@ -202,11 +203,12 @@ def read_units(given: argparse.Namespace) -> Units:
     path = Path(given.scripts[0]).with_name("units.json")
     try:
         found = json.loads(path.read_text(encoding="utf-8")) if path.exists() else {}
-        of_file = Units(*(None if found.get(name) is None else float(found[name]) for name in ("metres", "seconds")))
+        metres, seconds = (None if found.get(name) is None else float(found[name]) for name in ("metres", "seconds"))
+        of_file = Units(metres, seconds, int(found.get("origin", 0)), int(found.get("begin", 0)))
     except (ValueError, TypeError, AttributeError):
         raise Fault(f'{path} must be an object such as {{"metres": 7.5, "seconds": 1}}') from None
-    units = Units(given.metres or of_file.metres, given.seconds or of_file.seconds or 1.0)
-    if not all(0 < length < float("inf") for length in units if length is not None):
+    units = of_file._replace(metres=given.metres or of_file.metres, seconds=given.seconds or of_file.seconds or 1.0)
+    if not all(0 < length < float("inf") for length in (units.metres, units.seconds) if length is not None):
         raise Fault("--metres and --seconds (or those of units.json) must be above 0")
     return units
 
@@ -241,8 +243,9 @@ def compare(given: argparse.Namespace) -> None:
     roads = read_roads(given.scripts, scripts, given.at)
     plan = scripts[0].plan
     check_same_road(plan, scripts[1].plan)
-    runs = [run_day(road.script, None if given.no_queue else road.free, Window(0, road.last), detectors=[], seconds=seconds) for road in roads]
-    cost = compare_delays(runs[0].by_arrival, runs[1].by_arrival, max(round(given.minutes * 60 / seconds), 1))
+    runs = [run_day(road.script, None if given.no_queue else road.free, Window(units.begin, road.last), detectors=[], seconds=seconds,
+                    origin=units.origin) for road in roads]
+    cost = compare_delays(runs[0].by_arrival, runs[1].by_arrival, max(round(given.minutes * 60 / seconds), 1), units.begin)
     waits = [list(map(Waits.of, runs))]
     grow, inlets, figures = find_growing(waits), find_inlets(waits), list_figures(plan, units)
     supplies = [compute_supplies_of_run(road, run) for road, run in zip(roads, runs)] if given.demand else []

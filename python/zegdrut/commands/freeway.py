@@ -11,8 +11,9 @@ them into the folder, by default out/ or, for a file NAME.json, out/NAME:
     counts.csv     flow and speed at each detector, minute by minute
     stretch.csv    flow, density and speed on a stretch of the road, period by period
 
-The folder also has the script (script.jsonl), its replies, and units.json with the lengths of a cell and a step. If the road has
-sections or stalled cars, without.jsonl is the same road and seed without them.
+The folder also has the script (script.jsonl), its replies, and units.json with the lengths of a cell and a step. If the road has an
+approach, units.json also has the cell at km 0 ("origin") and the step at minute 0 ("begin"). If the road has sections or stalled cars,
+without.jsonl is the same road and seed without them.
 
 FILE2 of --then has the sections and stalled cars as they turned out. The command then changes the past of the run by edits
 (then.jsonl) and lists them. The tables of the changed run are then_demand.csv and so on.
@@ -39,11 +40,12 @@ from ..program.scripts import Script
 from ..program.wire import CountReply, Fields, Reply, RowsReply
 from ..reports.outputs import prepare_folder
 from ..roads.demand import Inlet, Supply, count_admitted, count_demand, find_rate
-from ..roads.freeway import (Fault, Figures, Road, Section, measure_chances, find_changes, describe_changes, make_roads, make_shapes, widen_inlet,
-                       widen_inlets)
+from ..roads.freeway import (Fault, Figures, Road, Section, find_changes, describe_changes, list_free_cells, make_road, make_shapes, measure_chances,
+                             postpone, widen_inlet, widen_inlets, with_lead)
 from ..roads.inflow import run_script
 from ..roads.road_scripts import Chances, make_commands, make_plan, make_script
-from ..roads.units import CELLS_A_KM, HOUR, KMH, METRES, format_distance, format_km, to_cells, to_km, to_steps
+from ..roads.units import CELLS_A_KM, HOUR, KMH, METRES, format_distance, to_steps
+from ..roads.waiting import make_waiting_roads
 
 FIGURES = Figures(
     length=3, limit=130,            # km; km/h, rounded to 27, 54, 81, 108 or 135
@@ -78,7 +80,7 @@ def measure_chances_aloud(road: Road) -> Chances:
         cell, demand = road.inlets[inlet]
         most = max(cars for _, cars in demand)
         report_progress(f"measuring the inflow chance for {'up to ' * (len(demand) > 1)}{most:g} cars per hour at km "
-                        f"{cell / CELLS_A_KM:g}" + ", with the inlets before it" * bool(inlet))
+                        f"{road.to_km(cell):g}" + ", with the inlets before it" * bool(inlet))
     return measure_chances(road, tell)
 
 
@@ -91,11 +93,11 @@ def format_demands(road: Road, found: Chances, start: Script) -> Lines:
     times = "from,to" if road.clock else "from minute,to minute"
     lines = [f"inlet at km,{times},demand in cars,admitted cars,lost cars,± by chance"]
     for inlet, (cell, demand) in enumerate(road.inlets):
-        for first in range(0, road.steps, HOUR):
+        for first in range(road.lead, road.steps, HOUR):
             last = min(first + HOUR, road.steps)
             came = count_admitted_cars(trips, Window(first, last))[inlet]
             supply = Supply(count_demand(demand, first, last), came)
-            lines.append(f"{format_km(cell)},{format_time(road, first)},{format_time(road, last)},{supply.demand:.1f},{came},"
+            lines.append(f"{road.units.place_value(cell)},{format_time(road, first)},{format_time(road, last)},{supply.demand:.1f},{came},"
                          f"{max(supply.lost, 0.0):.1f},{supply.scatter:.0f}")
     note_full_inlets(road, found)
     return lines
@@ -103,15 +105,16 @@ def format_demands(road: Road, found: Chances, start: Script) -> Lines:
 
 def note_full_inlets(road: Road, found: Chances) -> None:
     """Add a note for each inlet that admits less than its demand in the long run, at the time of the highest total demand."""
-    dates = sorted({step for _, demand in road.inlets for step, _ in demand})
-    step = max(dates, key=lambda date: sum(find_rate(demand, date) for _, demand in road.inlets))
-    now = [(cell, int(find_rate(changes, step))) for (cell, _), changes in zip(road.inlets, found)]
+    demands = road.demands
+    step = max(sorted({step for demand in demands for step, _ in demand}), key=lambda date: sum(find_rate(demand, date) for demand in demands))
+    chances = [postpone(found[0], road.early), *found[1:]]
+    now = [(cell, int(find_rate(changes, step))) for cell, changes in zip(list_free_cells(road), chances)]
     bounds = [1_000 + 4_000 * piece for piece in range(26)]
     pieces = count_admitted([Inlet(*inlet) for inlet in now], road.drivers, bounds, seed=1)
-    for (cell, demand), cars in zip(road.inlets, zip(*pieces)):
+    for (cell, _), demand, cars in zip(road.inlets, demands, zip(*pieces)):
         asked, hours = find_rate(demand, step), (bounds[-1] - bounds[0]) / HOUR
         if is_short(Supply(asked * hours, sum(cars))):
-            road.notes.append(f"at km {format_distance(to_km(cell))} only {sum(cars) / hours:.0f} of {asked:g} cars per hour can enter in the "
+            road.notes.append(f"at km {format_distance(road.to_km(cell))} only {sum(cars) / hours:.0f} of {asked:g} cars per hour can enter in the "
                               "long run, because the road downstream is full")
 
 
@@ -122,7 +125,7 @@ def is_short(supply: Supply) -> bool:
 
 def format_time(road: Road, step: int) -> str:
     """Return the time of a step for a table."""
-    return f"{step / 60:g}" if road.clock is None else road.clock.to_text(step)
+    return f"{(step - road.lead) / 60:g}" if road.clock is None else road.clock.to_text(step)
 
 
 def follow_run(road: Road, start: Script) -> Trips:
@@ -150,7 +153,7 @@ def list_queries(road: Road) -> list[Fields]:
 def list_counts(road: Road) -> list[Fields]:
     """Return the queries for the counts of each detector and minute."""
     return [{"count": {"at": "A", "detector": detector, "from": first, "to": min(first + 60, road.steps)}}
-            for detector in range(len(road.detectors)) for first in range(0, road.steps, 60)]
+            for detector in range(len(road.detectors)) for first in range(road.lead, road.steps, 60)]
 
 
 def list_diagrams(road: Road) -> Iterator[Fields]:
@@ -166,9 +169,8 @@ def format_rate(cars: int, speeds: int, duration: int) -> tuple[str, str]:
     return f"{cars * HOUR / duration:.0f}", f"{speeds / cars * KMH:.1f}" if cars else ""
 
 
-def format_traffic(rows: list[str], stretch: tuple[float, float]) -> tuple[str, str, str]:
-    """Return flow in cars per hour, density in cars per km and space-mean speed in km/h of the stretch."""
-    first, last = map(to_cells, stretch)
+def format_traffic(rows: list[str], first: int, last: int) -> tuple[str, str, str]:
+    """Return flow in cars per hour, density in cars per km and space-mean speed in km/h on the cells `first` to `last - 1`."""
     speeds = [int(sign) for row in rows for sign in re.sub("[.#]", "", row[first:last])]
     area = len(rows) * (last - first)
     speed = f"{sum(speeds) / len(speeds) * KMH:.1f}" if speeds else ""
@@ -179,9 +181,9 @@ def format_detectors(figures: Figures, road: Road, counted: list[CountReply]) ->
     """Return the table of flow and speed at each detector and minute."""
     lines, found = [f"detector at km,{'time' if road.clock else 'minute'},cars an hour,km/h"], iter(counted)
     for cell in road.detectors:
-        for first in range(0, road.steps, 60):
+        for first in range(road.lead, road.steps, 60):
             one, duration = next(found), min(60, road.steps - first)
-            lines.append(",".join([format_km(cell), format_time(road, first), *format_rate(one["cars"], one["speeds"], duration)]))
+            lines.append(",".join([road.units.place_value(cell), format_time(road, first), *format_rate(one["cars"], one["speeds"], duration)]))
     return lines
 
 
@@ -195,15 +197,16 @@ def format_stretch(figures: Figures, road: Road, counted: list[CountReply], rows
     if nearest is not None and every % 60:
         nearest = None
     if nearest is not None:
-        lines[0] += f",detector at km {format_km(road.detectors[nearest])}: cars an hour,time-mean km/h"
+        lines[0] += f",detector at {road.units.place(road.detectors[nearest])}: cars an hour,time-mean km/h"
     a_detector = len(counted) // max(len(figures.detectors), 1)
-    for first in range(0, road.steps, every):
+    first_cell, last_cell = map(road.to_cell, figures.stretch)
+    for first in range(road.lead, road.steps, every):
         last = min(first + every, road.steps)
         words: tuple[str, ...] = ()
         if nearest is not None:
-            of_piece = counted[nearest * a_detector:][first // 60:-(-last // 60)]
+            of_piece = counted[nearest * a_detector:][(first - road.lead) // 60:-(-(last - road.lead) // 60)]
             words = format_rate(sum(one["cars"] for one in of_piece), sum(one["speeds"] for one in of_piece), last - first)
-        lines.append(",".join([format_time(road, first), *format_traffic(rows[first + 1:last + 1], figures.stretch), *words]))
+        lines.append(",".join([format_time(road, first), *format_traffic(rows[first + 1:last + 1], first_cell, last_cell), *words]))
     return lines
 
 
@@ -244,7 +247,8 @@ def write_tables(folder: Path, before_name: str, tables: dict[str, Lines]) -> No
 
 def run_freeway(figures: Figures, folder: Path, then: Figures | None = None) -> None:
     """Run a freeway, without its works and with its later changes too, and write everything into the folder."""
-    road, turned = make_roads(figures, then)
+    road, *others = make_waiting_roads([figures] if then is None else [figures, then])
+    turned = others[0] if others else None
     prepare_folder(folder)
     print_lines(road.notes)
     changed = find_changes(road, turned) if turned else []
@@ -256,7 +260,8 @@ def run_freeway(figures: Figures, folder: Path, then: Figures | None = None) -> 
     start = make_script(road, inlets, figures.seed)
     demand = format_demands(road, inlets, start)
     print_lines(road.notes[before:], end="\n")
-    write_lines(folder, "units.json", [json.dumps({"metres": METRES, "seconds": 1})])
+    units = {"metres": METRES, "seconds": 1, **({"origin": road.approach, "begin": road.lead} if road.approach else {})}
+    write_lines(folder, "units.json", [json.dumps(units)])
     script = with_commands(start, list_queries(road))
     write_tables(folder, "", make_tables(figures, road, demand, run_and_write(folder, "script.jsonl", "replies.jsonl", script)))
     if road.edits:
@@ -273,7 +278,7 @@ def run_freeway(figures: Figures, folder: Path, then: Figures | None = None) -> 
 
 def print_plan(figures: Figures) -> None:
     """Print the plan and the shapes for live/serve as a line of JSON, and on standard error what was rounded."""
-    road, _ = make_roads(figures, None)
+    road = make_road(figures)
     print("".join(f"{one}\n" for one in road.notes), end="", file=sys.stderr, flush=True)
     found = measure_chances_aloud(road)
     print(json.dumps({"plan": make_plan(road, found, figures.seed), "shapes": list(make_shapes(figures, road, found)),
@@ -296,12 +301,14 @@ def main(words: Sequence[str] | None = None, out: Path = Path("out")) -> int:
     try:
         figures = FIGURES.override(given.file) if given.file else FIGURES
         if given.plan:
+            if figures.approach:
+                raise Fault(f"{figures.source}: approach: live takes no approach: leave it out of the file that live serves")
             print_plan(widen_inlet(figures))
             return 0
         then = figures.override_works(given.then) if given.then else None
         folder = given.out or out / (given.file.stem if given.file else "")
         prepare_folder(folder)
-        figures, *turned = widen_inlets([figures] if then is None else [figures, then])
+        figures, *turned = map(with_lead, widen_inlets([figures] if then is None else [figures, then]))
         then = turned[0] if turned else None
         run_freeway(figures, folder, then)
     except (LabError, OSError) as fault:

@@ -38,7 +38,7 @@ from ..reports.pictures import MEASURED, NO_DATA, SIMULATED, Chart, Field, Line,
 from ..roads.demand import BeyondCapacity
 from ..roads.freeway import Figures, make_road, widen_inlet
 from ..roads.freeway_files import write_road
-from ..roads.units import CELLS_A_KM, HOUR, count_things, format_fixed, format_km, to_km
+from ..roads.units import HOUR, count_things, format_fixed
 from .freeway import FIGURES
 
 DAYS = 5
@@ -194,7 +194,7 @@ def format_number(value: float | None, digits: int = 1) -> str:
 
 def find_places(model: Model) -> dict[str, str]:
     """Return the km of each compared station by its name, as the road has it: in whole cells."""
-    return {one.station.name: format_km(cell) for one, cell in zip(model.measured.main[1:], model.road.detectors)}
+    return {one.station.name: model.road.units.place_value(cell) for one, cell in zip(model.measured.main[1:], model.road.detectors)}
 
 
 def format_hours(model: Model, hours: Sequence[Hour]) -> list[str]:
@@ -290,7 +290,7 @@ def make_measured_field(model: Model, pieces: int) -> Field:
     """Return measured speeds as a field. Each piece of the road has the speed of the nearest station: NO_DATA if it has none then, and None
     if it counted no car."""
     measured = model.measured
-    last = model.road.length / CELLS_A_KM
+    last = model.road.to_km(model.road.length)
     nearest = [min(measured.main, key=lambda one: abs(one.station.km - (piece + 0.5) * last / pieces)) for piece in range(pieces)]
     return [[NO_DATA if one.speeds[place] is None and one.cars[place] != 0 else one.speeds[place] for one in nearest]
             for place in range(measured.intervals)]
@@ -299,9 +299,10 @@ def make_measured_field(model: Model, pieces: int) -> Field:
 def draw_space_time(model: Model) -> str:
     """Return the measured and the simulated space-time diagram with the same colour scale, as SVG."""
     _, rows, _ = simulate_day(model, model.seed, with_rows=True)
-    clock, km = model.measured.clock, model.road.length / CELLS_A_KM
-    simulated = make_speed_field(rows, A_MINUTE, CELLS_A_PIECE)
-    ramps, stations = [to_km(cell) for cell, _ in model.road.inlets[1:]], [min(max(one.station.km, 0.0), km) for one in model.measured.main]
+    road, clock = model.road, model.measured.clock
+    km = road.to_km(road.length)
+    simulated = make_speed_field([row[road.approach:] for row in rows], A_MINUTE, CELLS_A_PIECE)
+    ramps, stations = [road.to_km(cell) for cell, _ in road.inlets[1:]], [min(max(one.station.km, 0.0), km) for one in model.measured.main]
     drawn = [draw_field(simulated, f"Simulated space-mean speed, seed {model.seed}", clock, 0, model.window_steps, km, ramps=ramps, detectors=stations)]
     if any(speed is not None for one in model.measured.main for speed in one.speeds):
         measured = make_measured_field(model, len(simulated[0]))

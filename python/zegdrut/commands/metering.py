@@ -40,13 +40,13 @@ from ..program.errors import Fault, LabError, describe_error
 from ..program.lab import RoadLab
 from ..reports.outputs import format_csv, format_window, make_title, prepare_folder, write_csv
 from ..roads.clock import InvalidTime
-from ..roads.control import RampMeter, run_control
+from ..roads.control import PERIOD, RampMeter, run_control
 from ..roads.demand import Admission, AdmissionByFlow, BeyondCapacity, measure_by_flow, find_rate
-from ..roads.freeway import Figures, Road, measure_chances, make_road, widen_inlet
+from ..roads.freeway import Figures, Road, list_free_cells, make_all_roads, measure_chances, widen_inlet, with_lead
 from ..roads.freeway_files import is_number, check_names
 from ..roads.road_scripts import Chances, make_plan, make_script
-from ..roads.units import format_fixed, to_cells, to_km, to_steps
-from ..roads.waiting import Queues, ask_edits, find_arrivals, find_narrow_zone
+from ..roads.units import format_fixed, to_steps
+from ..roads.waiting import Queues, ask_edits, find_arrivals, make_waiting_roads
 from .freeway import FIGURES, report_progress
 from .sweep import add_dask_options, open_executor
 from .measured import check_days
@@ -91,13 +91,13 @@ class Site:
 
     def admission(self, step: int) -> Admission:
         """Return the admission of the ramp at the main demand of a step."""
-        return self.admissions.at_flow(sum(find_rate(demand, step) for _, demand in self.road.inlets[:self.inlet]))
+        return self.admissions.at_flow(sum(find_rate(demand, step) for demand in self.road.demands[:self.inlet]))
 
     def list_figures(self) -> list[Figure]:
         """Return the figures of a day: of the road, of the queue at the ramp, and the lost demand of the main road."""
-        figures = list_figures(make_plan(self.road, self.chances, self.figures.seed))
+        figures = list_figures(make_plan(self.road, self.chances, self.figures.seed), self.road.units)
         waits = [figure for figure in figures if figure.key in WAITING_KEYS and figure.of.inlet not in (None, self.inlet)]
-        first, *others = choose(figures, "hours", "waiting", "together", "queue", "left", inlet=self.inlet)
+        first, *others = choose(figures, "hours", "approach hours", "waiting", "together", "queue", "left", inlet=self.inlet)
         return [first, *waits, *others, *choose(figures, "lost at", inlet=0)]
 
     def meter(self, start: float) -> RampMeter:
@@ -148,25 +148,24 @@ def read_control(path: Path, figures: Figures) -> Control:
 
 def make_site(name: str, figures: Figures, control: Control, has_queue: bool = True) -> Site:
     """Make the road with detectors at and after the ramp, and measure the admission of the ramp at several main demands."""
-    wide = widen_inlet(figures)
-    road = make_road(wide)
-    if has_queue and (zone := find_narrow_zone(road.zone, [wide])) != road.zone:
-        road = make_road(dataclasses.replace(wide, zone=to_km(zone)))
-    wanted = to_cells(control.ramp)
-    inlet = next((index for index, (cell, _) in enumerate(road.inlets) if index and cell == wanted), None)
+    wide = with_lead(widen_inlet(figures))
+    (road,) = (make_waiting_roads if has_queue else make_all_roads)([wide])
+    wanted, cell = road.to_cell(control.ramp), road.to_cell(control.detector)
+    inlet = next((index for index, (place, _) in enumerate(road.inlets) if index and place == wanted), None)
     if inlet is None:
         ramps = ", ".join(f"{km:g}" for km, _ in figures.ramps)
         raise Fault(f"ramp: the road has no ramp at km {control.ramp:g}: " + (f"its ramps are at km {ramps}" if ramps else "it has no ramps"))
-    if not wanted < to_cells(control.detector) < road.length - 1:
+    if not wanted < cell < road.length - 1:
         raise Fault(f"detector: km {control.detector:g} must be downstream of the ramp at km {control.ramp:g}, and on the road")
     road.detectors += [wanted, wanted + 1]
     report_progress("measuring the inflow chances for the demand")
     chances = measure_chances(road)
-    before = road.inlets[:inlet]
-    states = [tuple(find_rate(demand, step) for _, demand in before) for step in sorted({step for _, demand in before for step, _ in demand})]
+    *before, place = list_free_cells(road)[:inlet + 1]
+    demands = road.demands[:inlet]
+    states = [tuple(find_rate(demand, step) for demand in demands) for step in sorted({step for demand in demands for step, _ in demand})]
     # All chances are measured, so that a day without control does not depend on the control.
-    admissions = measure_by_flow([cell for cell, _ in before], wanted, states, road.drivers)
-    return Site(name, figures, road, chances, inlet, to_cells(control.detector), control, admissions, has_queue)
+    admissions = measure_by_flow(before, place, states, road.drivers)
+    return Site(name, figures, road, chances, inlet, cell, control, admissions, has_queue)
 
 
 # Days
@@ -188,7 +187,7 @@ def run_with_queues(site: Site, lab: RoadLab, start: float) -> tuple[Metered, Qu
     meter, steps = site.meter(start), site.road.steps
     queues = Queues(lab, "A", find_other_arrivals(site, lab.plan["words"]) if site.has_queue else {})
     run_control(lab, "A", [meter], 0, steps, advance=queues.advance)
-    run = read_run(lab, "A", Window(0, steps), [demand for _, demand in site.road.inlets], detectors=[])
+    run = read_run(lab, "A", Window(site.road.lead, steps), [demand for _, demand in site.road.inlets], detectors=[], origin=site.road.approach)
     return Metered(dataclasses.replace(run, waiting={inlet: queue.waiting for inlet, queue in queues.of_inlet.items()}), meter.rates), queues
 
 
@@ -208,7 +207,7 @@ def open_day(site: Site, seed: int) -> RoadLab:
 def run_day(site: Site, seed: int) -> list[Metered]:
     """Run a day without control and with it."""
     found = []
-    for start in (math.inf, site.control.begin):
+    for start in (math.inf, site.road.lead + site.control.begin):
         with open_day(site, seed) as lab:
             found.append(run_metered(site, lab, start))
     return found
@@ -221,11 +220,11 @@ def run_days(site: Site, seeds: Sequence[int], progress: Callable[[int, int], No
 
 
 def run_again(site: Site, seed: int, start: int) -> list[Metered]:
-    """Run a day without metering, and again with metering from step `start` on, by edits in its past."""
+    """Run a day without metering, and again with metering from `start` steps after minute 0 on, by edits in its past."""
     with open_day(site, seed) as lab:
         plain, queues = run_with_queues(site, lab, math.inf)
         queues.withdraw()
-        return [plain, run_metered(site, lab, start)]
+        return [plain, run_metered(site, lab, site.road.lead + start)]
 
 
 # Tables
@@ -268,9 +267,9 @@ def make_day_table(rows: Sequence[FigureRow], titles: Sequence[str]) -> Table:
 def make_minute_table(site: Site, runs: Sequence[Metered]) -> Table:
     """Return the table of occupancy, rate and queue by minute, without control and with it. The rate is empty if the ramp is not metered."""
     rows = [["time", "no control: occupancy %", "no control: queue cars", "ALINEA: occupancy %", "ALINEA: rate cars/h", "ALINEA: queue cars"]]
-    clock = site.figures.clock
-    for (step, plain, _, waiting), (_, occupancy, rate, queue) in zip(*(run.rates for run in runs)):
-        rows.append([clock.to_text(step), f"{plain:.1f}", f"{waiting:.1f}", f"{occupancy:.1f}", "" if math.isinf(rate) else f"{rate:.0f}",
+    clock, lead = site.figures.clock, site.road.lead
+    for (step, plain, _, waiting), (_, occupancy, rate, queue) in zip(*(run.rates[lead // PERIOD:] for run in runs)):
+        rows.append([clock.to_text(step - lead), f"{plain:.1f}", f"{waiting:.1f}", f"{occupancy:.1f}", "" if math.isinf(rate) else f"{rate:.0f}",
                      f"{queue:.1f}"])
     return rows
 
@@ -310,7 +309,7 @@ def compare(given: argparse.Namespace, out: Path) -> None:
 def write_tables(folder: Path, site: Site, days: str, tables: dict[str, Table], said: Sequence[str] | None = None) -> None:
     """Write tables. Their first lines have the road, the window, the date and the days. Print the first one with the sentences `said`, if they
     are given."""
-    clock, steps = site.figures.clock, site.road.steps
+    clock, steps = site.figures.clock, site.road.steps - site.road.lead
     for name, rows in tables.items():
         write_csv(folder / f"{name}-{site.name}-{format_window(clock, steps)}.csv", f"{make_title(site.name, clock, steps)}, {days}", rows)
     if said is not None:

@@ -39,8 +39,8 @@ from ..roads.demand import BeyondCapacity, find_rate
 from ..roads.freeway import Figures, Road, make_all_roads, measure_chances, to_rates, warm_up_minutes, widen_inlets, with_warm_up
 from ..roads.freeway_files import Demand
 from ..roads.road_scripts import make_script
-from ..roads.units import HOUR, KMH, count_things, format_distance, format_km, to_km, to_steps
-from ..roads.waiting import find_narrow_zone
+from ..roads.units import HOUR, KMH, count_things, format_distance, to_km, to_steps
+from ..roads.waiting import make_waiting_roads
 from .freeway import FIGURES, report_progress
 from .measured import (Congestion, add_congestion_argument, add_count_options, add_demand_argument, check_congested, check_days, choose_factor,
                        format_hours, format_shares, format_speeds, make_comparison_charts, make_title, read_data)
@@ -66,6 +66,7 @@ def read_arguments(words: Sequence[str] | None) -> argparse.Namespace:
     parser.add_argument("--warm-up", type=float, metavar="MINUTES", help="minutes of the run before the window (default: twice the free "
                         "travel time, rounded up to five minutes; 0: the road is empty when the window begins)")
     parser.add_argument("--no-queue", action="store_true", help="cars that cannot enter are lost, and do not wait before the road")
+    parser.add_argument("--show-approach", action="store_true", help="draw the approach in the space-time diagrams, too")
     parser.add_argument("--title", help="title of the report (default: the names of the files)")
     parser.add_argument("--out", type=Path, metavar="FILE.html", help="file of the report")
     add_dask_options(parser)
@@ -132,7 +133,7 @@ def read_others(given: argparse.Namespace, figures: Figures) -> tuple[list[Figur
         raise Fault(f"--against takes up to {MOST_SIDES - 1} files, not {len(given.against)}: a report has at most {MOST_SIDES} roads")
     others = [FIGURES.override(path) for path in given.against]
     for path, other in zip(given.against, others):
-        for name in ("length", "minutes", "begin", "date", "seed", "detectors", "entry"):
+        for name in ("length", "minutes", "begin", "date", "seed", "detectors", "entry", "approach"):
             if getattr(figures, name) != getattr(other, name):
                 raise Fault(f"{path}: {name} is {getattr(other, name)}, but {getattr(figures, name)} in {given.road}: both "
                             "files must describe the same road and time")
@@ -155,16 +156,13 @@ def join_names(names: Sequence[str]) -> str:
 def make_sides(request: Request) -> tuple[list[Road], list[Side]]:
     """Return the roads and the sides of the report. They begin before the window."""
     wide = [with_warm_up(one, request.warm) for one in widen_inlets([*request.others, request.figures])]
-    roads = make_all_roads(wide)
-    zone = find_narrow_zone(roads[0].zone, wide)
-    if request.has_queue and zone != roads[0].zone:
-        roads = make_all_roads([dataclasses.replace(one, zone=to_km(zone)) for one in wide])
+    roads = (make_waiting_roads if request.has_queue else make_all_roads)(wide)
     found = []
     for name, road in zip(request.names, roads):
         report_progress(f"measuring the inflow chances for the demand of the road {name}")
         chances = measure_chances(road)
         found.append(Side(name, make_script(road, chances, wide[-1].seed), [demand for _, demand in road.inlets],
-                          make_script(road, chances, wide[-1].seed, with_works=False) if request.has_queue else None))
+                          make_script(road, chances, wide[-1].seed, with_works=False) if request.has_queue else None, units=road.units))
     return roads, found
 
 
@@ -187,6 +185,11 @@ def describe_works(figures: Figures) -> list[str]:
 def name_inlets(figures: Figures) -> list[tuple[str, Demand]]:
     """Return the name and the demand of each inlet."""
     return [("main road", figures.main), *((f"on-ramp at km {km:g}", demand) for km, demand in figures.ramps)]
+
+
+def describe_approach(road: Road) -> list[str]:
+    """Describe the approach, if the road has one."""
+    return [f"approach of {format_distance(to_km(road.approach))} km before km 0, where cars enter"] if road.approach else []
 
 
 def describe_demand(figures: Figures) -> list[str]:
@@ -274,11 +277,11 @@ def make_page(given: argparse.Namespace, request: Request, roads: Sequence[Road]
     closed = [[(window.first + to_steps(one.begin), window.first + to_steps(one.end), one.at, one.at) for one in side.stalled]
               for side in (*request.others, figures)]
     return format_page(Contents(
-        title=title, facts=[f"{format_distance(to_km(road.length))} km, one lane, {drivers}", *describe_demands(request)],
+        title=title, facts=[f"{format_distance(road.to_km(road.length))} km, one lane, {drivers}", *describe_approach(road), *describe_demands(request)],
         demand=make_demand_chart(list_demands(request)), works=list_works(request),
         notes=road.notes, clock=clock, window=window, length=road.length, detectors=road.detectors, sides=sides, days=days,
         rows=tables[0], others=tables[1:], seed=figures.seed, closed=closed, more="" if model is None else make_counts_html(given, model),
-        remarks=explain_outflow(road.drivers, [list(map(Waits.of, runs)) for runs in days])))
+        remarks=explain_outflow(road.drivers, [list(map(Waits.of, runs)) for runs in days]), has_approach=given.show_approach))
 
 
 # The command
@@ -299,7 +302,7 @@ def make_series_records(request: Request, sides: Sequence[Side], roads: Sequence
         each = [(make_flow_series([both[place] for both in days], detector, window),
                  make_speed_series([both[place] for both in days], detector, window)) for place in range(len(sides))]
         for index, first in enumerate(range(0, window.steps, PERIOD)):
-            record: Record = {"detector km": format_km(cell), "time": request.figures.clock.to_text(first)}
+            record: Record = {"detector km": roads[0].units.place_value(cell), "time": request.figures.clock.to_text(first)}
             for side, (flow, speed) in zip(sides, each):
                 cars, kmh = flow[index][1], speed[index][1]
                 record.update({f"{side.name}: cars/h": None if cars is None else round(cars, 1),

@@ -22,7 +22,7 @@ from ..program.scripts import Script, check_same_road
 from ..program.wire import PlanLine
 from ..roads.demand import Drivers
 from ..roads.units import Units
-from .queues import (WAITING_KEYS, EditedRoad, Waits, explain_growing, explain_outflow, find_growing, find_inlets, is_shown, read_roads,
+from .queues import (BEFORE_KEYS, EditedRoad, Waits, explain_growing, explain_outflow, find_growing, find_inlets, is_shown, read_roads,
                      run_day as run_with_queue, with_bounds)
 from .simulation import RoadRun, simulate_days
 from .table import Figure, FigureRow, Value, compare, list_figures, measure_day
@@ -32,7 +32,7 @@ SEEDS = 1 << 64
 DAYS = range(2, 1_001)
 NAMES = ("run before", "run after")
 ROADS = ("before", "after")
-KEYS = ("hours", *WAITING_KEYS, "through", "entered", "cars")
+KEYS = ("hours", *BEFORE_KEYS, "through", "entered", "cars")
 
 
 class Days(NamedTuple):
@@ -61,7 +61,7 @@ def run_over_days(before: Script, after: Script, days: int, at: str | None = Non
     """Run both scripts with `days` seeds, on all processors. Return the figures of the days in the order of their seeds.
 
     at: the replica; by default the first one of each plan.
-    units: the lengths of a cell and of a step.
+    units: the lengths of a cell and of a step, the cell at km 0, and the step at which the figures begin.
     names: the names of the two scripts in messages.
     progress: called after each day with the number of days done and of all days. By default a bar is drawn if standard error is
     a terminal.
@@ -87,7 +87,7 @@ def run_over_days(before: Script, after: Script, days: int, at: str | None = Non
     finally:
         bar.end()
     waits, figures = [one for _, one in found], list_days_figures(plan, units)
-    shown = [is_shown(figure, find_inlets(waits)) for figure in figures]
+    shown = [is_shown(figure, find_inlets(waits), units) for figure in figures]
     return Days(list(compress(figures, shown)), seeds, [list(compress(values, shown)) for values, _ in found], waits, roads[0].drivers)
 
 
@@ -100,7 +100,7 @@ def make_day(plan: PlanLine, units: Units, roads: Sequence[EditedRoad], has_queu
     """Return the figures of a day of both roads, at the detectors of the plan, and their queues."""
     def run_road(road: EditedRoad) -> RoadRun:
         detectors = [road.script.plan["detectors"].index(cell) for cell in plan["detectors"]]
-        return run_with_queue(road.script.with_seed(seed), road.free.with_seed(seed) if has_queue else None, Window(0, road.last), (), detectors,
-                              with_passings=False, seconds=units.seconds or 1.0)
+        return run_with_queue(road.script.with_seed(seed), road.free.with_seed(seed) if has_queue else None, Window(units.begin, road.last), (), detectors,
+                              with_passings=False, seconds=units.seconds or 1.0, origin=units.origin)
     runs = list(map(run_road, roads))
     return measure_day(list_days_figures(plan, units), *runs), list(map(Waits.of, runs))

@@ -106,8 +106,8 @@ class Delay:
         return sum(group.delay for group in (self.through, self.inside, self.lost, self.gained))
 
 
-def compare_delays(before: Trips, after: Trips, period: int = 60) -> Delay:
-    """Compare two runs of one plan over the same rows, with the entries in periods of `period` steps.
+def compare_delays(before: Trips, after: Trips, period: int = 60, begin: int = 0) -> Delay:
+    """Compare two runs of one plan over the same rows, with the entries in periods of `period` steps that are counted from step `begin` on.
 
     The first row is 0, or a row before the change has an effect; cars that left earlier are then in no group.
     ValueError: the two runs have different rows, or different cars in the first row.
@@ -139,7 +139,7 @@ def compare_delays(before: Trips, after: Trips, period: int = 60) -> Delay:
     delayed = {number for number in through if travel_steps(after, number) > travel_steps(before, number)}
     cost = Delay(
         group(through), group(delayed), group(both - through), group(lost), group(gained),
-        {key: entries(numbers) for key, numbers in group_by(every, lambda number: entry_step(number) // period).items()},
+        {key: entries(numbers) for key, numbers in group_by(every, lambda number: (entry_step(number) - begin) // period).items()},
         {key: entered(numbers) for key, numbers in group_by(every, entry_inlet).items()},
         sum(after.cars) - sum(before.cars))
     if cost.total != cost.by_rows:

@@ -18,16 +18,18 @@ from ..program.scripts import Script, choose_replica, open_edited
 from ..program.wire import Fields
 from ..roads.capacity import NEAR_OUTFLOW, measure_outflow
 from ..roads.demand import Drivers, Rates
-from ..roads.units import HOUR
+from ..roads.units import HOUR, Units
 from ..roads.waiting import ask_edits, find_arrivals, find_main, let_wait, name_by_arrival
 from .lost import find_drivers
 from .simulation import RoadRun, read_run
 from .table import FREEWAY, Bound, Figure, FigureRow, count_lost
 from .trips import Window, entry_inlet, entry_step
 
-WAITING_KEYS = ("wait", "wait queue", "wait end", "all hours")
+WAITING_KEYS = ("wait", "wait queue", "wait end")
 """The figures of cars that wait before the road, which are shown if cars wait."""
-GROWING_KEYS = ("delay", "together", *WAITING_KEYS)
+BEFORE_KEYS = ("approach hours", *WAITING_KEYS, "all hours")
+"""The figures of cars before the road, on its approach or waiting, and all vehicle hours."""
+GROWING_KEYS = ("delay", "together", "all hours", *WAITING_KEYS)
 """The figures that are too small if cars still wait in the last row."""
 
 
@@ -77,14 +79,15 @@ def is_of_free_road(edit: Edit) -> bool:
 
 
 def run_day(script: Script, free: Script | None, window: Window, demands: Sequence[Rates] = (), detectors: Sequence[int] | None = None,
-            period: int | None = None, with_passings: bool = True, with_rows: bool = False, seconds: float = 1.0, waits: bool = True) -> RoadRun:
+            period: int | None = None, with_passings: bool = True, with_rows: bool = False, seconds: float = 1.0, waits: bool = True,
+            origin: int = 0) -> RoadRun:
     """Run a script up to the end of a window. Cars wait before its inlets if `free`, its script without works, is given; otherwise, and
     unless `waits`, cars that cannot enter are lost. `read_run` describes the other arguments."""
     with RoadLab(script.plan) as lab:
         ask_edits(lab, script.commands)
         arrivals = {} if free is None else find_arrivals(script, free, window.last)
         queues = let_wait(lab, "A", arrivals if waits else {}, window.last)
-        run = read_run(lab, "A", window, demands, detectors, period, with_passings, with_rows, seconds)
+        run = read_run(lab, "A", window, demands, detectors, period, with_passings, with_rows, seconds, origin)
     return dataclasses.replace(run, arrived=name_by_arrival(run.trips, arrivals, queues), arrivals={} if waits else arrivals,
                                waiting={inlet: queue.waiting for inlet, queue in queues.items()})
 
@@ -117,9 +120,9 @@ def find_inlets(days: Sequence[Sequence[Waits]]) -> frozenset[int]:
     return frozenset().union(*(waits.inlets for day in days for waits in day))
 
 
-def is_shown(figure: Figure, inlets: frozenset[int]) -> bool:
+def is_shown(figure: Figure, inlets: frozenset[int], units: Units = FREEWAY) -> bool:
     """Return whether a figure is shown if cars wait before some inlets. Figures of queues are left out if nobody waits."""
-    return figure.key not in WAITING_KEYS or bool(inlets) and figure.of.inlet in {None, *inlets}
+    return bool(inlets or units.origin) if figure.key == "all hours" else figure.key not in WAITING_KEYS or figure.of.inlet in inlets
 
 
 def with_bounds(rows: Sequence[FigureRow], names: Sequence[str], days: Sequence[Sequence[Waits]]) -> list[FigureRow]:
@@ -162,10 +165,10 @@ def with_lost(rows: Sequence[FigureRow], names: Sequence[str], lost: Sequence[Ma
     return [dataclasses.replace(row, bound=bound, words=f"{row.words} {words}".strip()) if row.figure.key in LOSING_KEYS else row for row in rows]
 
 
-def average_lost(runs: Sequence[RoadRun]) -> dict[str, float]:
+def average_lost(runs: Sequence[RoadRun], units: Units = FREEWAY) -> dict[str, float]:
     """Return the mean number of cars that each inlet of a road loses on some days, by its place; 0 if the arrivals are not known."""
     plan = runs[0].trips.plan
-    return {FREEWAY.place(cell): math.fsum(count_lost(run, inlet) for run in runs if run.arrivals) / len(runs)
+    return {units.place(cell): math.fsum(count_lost(run, inlet) for run in runs if run.arrivals) / len(runs)
             for inlet, (cell, _) in enumerate(plan["inlets"])}
 
 

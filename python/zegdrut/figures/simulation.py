@@ -85,16 +85,17 @@ def read_counts(lab: RoadLab, at: str, detectors: Sequence[int], periods: Sequen
 
 
 def read_run(lab: RoadLab, at: str, window: Window, demands: Sequence[Rates] = (), detectors: Sequence[int] | None = None,
-             period: int | None = None, with_passings: bool = True, with_rows: bool = False, seconds: float = 1.0) -> RoadRun:
+             period: int | None = None, with_passings: bool = True, with_rows: bool = False, seconds: float = 1.0, origin: int = 0) -> RoadRun:
     """Read a run of the replica `at`, which it has simulated up to the window's end.
 
     detectors: the indexes of the detectors that are counted; by default all of them.
     period: the steps of each count; by default one count of the whole window.
     with_passings: read when each car passes each detector, for travel times to detectors. Such a run takes twice as long.
+    origin: the cell at km 0.
     """
     cells: Sequence[int] = lab.plan["detectors"]
     counted = range(len(cells)) if detectors is None else detectors
-    trips = Trips(lab.plan, [cells[detector] for detector in counted] if with_passings else [])
+    trips = Trips(lab.plan, [cells[detector] for detector in counted] if with_passings else [], origin=origin)
     trips.follow(lab, at, window.last)
     return RoadRun(trips, window, read_counts(lab, at, counted, split_window(window, period or max(window.steps, 1))), demands,
                    lab.diagram(at, window.first, window.last - 1) if with_rows else (), seconds)

@@ -20,7 +20,7 @@ from .delay import compare_delays
 from .intervals import Estimate, count_opposite, estimate_mean, estimate_unpaired, may_be_chance
 from .lost import LEAST_AT_RAMP, Queue, measure_queue
 from .simulation import RoadRun
-from .trips import compute_delay, compute_delay_at, compute_travel_time, count_admitted_cars, count_vehicle_steps
+from .trips import compute_delay, compute_delay_at, compute_travel_time, count_admitted_cars, count_approach_steps, count_vehicle_steps
 
 FREEWAY = Units(METRES, 1.0)
 """The usual units: a cell is 7.5 m, and a step 1 s."""
@@ -86,7 +86,9 @@ def list_figures(plan: PlanLine, units: Units = FREEWAY) -> list[Figure]:
         Figure("delay", "delay", hours, 2, of_change=lambda before, after: Value(None, None, before.hours(compute_delay(
             before.by_arrival, after.by_arrival, after.window).seconds))),
         *(make_delay_figure(site, place) for site, place in [*enumerate(places), (None, "the end")]),
-        Figure("hours", f"{hours} on the road", hours, 2, count_hours),
+        Figure("hours", f"{hours} from km 0 on" if units.origin else f"{hours} on the road", hours, 2, count_hours),
+        *([Figure("approach hours", f"{hours} before km 0", hours, 2, lambda run: run.hours(count_approach_steps(run.trips, run.window)))]
+          if units.origin else []),
         *(figure for inlet, start in starts.items() for figure in list_wait_figures(inlet, start)),
         Figure("all hours", f"{hours} on the road and before it", hours, 2, lambda run: run.hours(
             count_vehicle_steps(run.trips, run.window) + sum(sum(run.list_waiting(inlet)) for inlet in inlets))),
@@ -94,10 +96,10 @@ def list_figures(plan: PlanLine, units: Units = FREEWAY) -> list[Figure]:
         *(figure for inlet, ramp in ramps.items() for figure in list_queue_figures(inlet, ramp, [one for one in inlets if one != inlet])),
         Figure("left", "cars that left the road", "cars", 0, lambda run: float(sum(
             step is not None and run.window.first <= step < run.window.last for step in run.trips.left.values()))),
-        Figure("entered", "cars that entered", "cars", 0, lambda run: float(len(run.trips.left))),
+        Figure("entered", "cars that entered", "cars", 0, sum_admitted),
         Figure("demand", "demand", "cars", 0, sum_demand),
         *(make_demand_figure(inlet, f"demand of {name}") for inlet, name in several.items()),
-        Figure("admitted", "admitted cars", "cars", 0, lambda run: float(sum(count_admitted_cars(run.trips, run.window)))),
+        Figure("admitted", "admitted cars", "cars", 0, sum_admitted),
         *(make_admitted_figure(inlet, f"admitted cars of {name}") for inlet, name in several.items()),
         Figure("lost", "lost demand", "cars", 0, sum_lost),
         *(make_lost_figure(inlet, f"lost demand of {name}" if inlet in ramps else "lost main demand") for inlet, name in several.items()),
@@ -124,8 +126,13 @@ def subtract(late: float | None, early: float | None) -> float | None:
 
 
 def count_hours(run: RoadRun) -> float:
-    """Return the vehicle hours on the road in the window."""
-    return run.hours(count_vehicle_steps(run.trips, run.window))
+    """Return the vehicle hours on the road in the window, from km 0 on."""
+    return run.hours(count_vehicle_steps(run.trips, run.window) - count_approach_steps(run.trips, run.window))
+
+
+def sum_admitted(run: RoadRun) -> float:
+    """Return the cars that all inlets admit in the window."""
+    return float(sum(count_admitted_cars(run.trips, run.window)))
 
 
 def count_demand_of(run: RoadRun, inlet: int) -> float:
@@ -202,7 +209,7 @@ def list_queue_figures(inlet: int, ramp: str, others: Sequence[int]) -> list[Fig
         return measure_queue(run.trips, inlet, run.demands[inlet], run.window)
 
     def sum_hours(run: RoadRun) -> float:
-        return count_hours(run) + queue(run).vehicle_hours + run.hours(sum(sum(run.list_waiting(other)) for other in others))
+        return run.hours(count_vehicle_steps(run.trips, run.window)) + queue(run).vehicle_hours + run.hours(sum(sum(run.list_waiting(other)) for other in others))
     return [Figure("waiting", f"vehicle hours waiting at {ramp}", "vehicle hours", 2, lambda run: queue(run).vehicle_hours, of=Of(inlet)),
             Figure("together", "vehicle hours together", "vehicle hours", 2, sum_hours, of=Of(inlet)),
             Figure("queue", f"longest queue at {ramp}", "cars", 0, lambda run: queue(run).longest, of=Of(inlet))]

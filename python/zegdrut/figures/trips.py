@@ -81,6 +81,7 @@ class Trips:
     plan: the plan's line, as `RoadLab.plan` has it.
     sites: cells, such as those of detectors.
     first: the first row that is read. With a later row than 0, cars that left before are unknown.
+    origin: the cell at km 0. Cars before it are on the approach, and are counted apart.
 
     A car is known once a row shows it. A car that enters in the last cell before the deleted zone may leave in the same step; it stays
     unknown."""
@@ -88,12 +89,15 @@ class Trips:
     plan: PlanLine
     sites: Sequence[int] = ()
     first: int = 0
+    origin: int = 0
     left: dict[int, int | None] = field(default_factory=dict)
     """By a car's number: the step in which it left the road, or None while it is on it."""
     passed: list[dict[int, int]] = field(default_factory=list)
     """For each site, by a car's number: the step in which the car passed the site."""
     cars: list[int] = field(default_factory=list)
     """The number of cars in each row, from row `first` on."""
+    on_approach: list[int] = field(default_factory=list)
+    """Those of them on the approach."""
     _now: list[Sighting] = field(default_factory=list)
     """The cars on the road in the last row, by cell."""
     _checkpoints: list[Checkpoint] = field(default_factory=list)
@@ -166,13 +170,13 @@ class Trips:
             while len(steps) > known:
                 steps.popitem()
         self.left.update((number, None) for number, _ in mark.cars)
-        del self.cars[mark.row - self.first + 1:]
+        del self.cars[mark.row - self.first + 1:], self.on_approach[mark.row - self.first + 1:]
         self._now = mark.cars
 
     def _begin(self, cars: Sequence[Sighting], count: int) -> None:
         if len(cars) != count:
             raise ArithmeticError(f"row {self.first} has {count} cars, and {len(cars)} were given")
-        self._now, self.cars = list(cars), [count]
+        self._now, self.cars, self.on_approach = list(cars), [count], [sum(cell < self.origin for _, cell in cars)]
         self.left.update((number, None) for number, _ in cars)
         self._keep_checkpoint()
 
@@ -206,6 +210,7 @@ class Trips:
             self.passed[index].update(zip(passing, times))
         self._now = now
         self.cars += counts[1:]
+        self.on_approach += [count_cars(row[:self.origin]) for row in rows[1:]]
         if self.horizon - self._checkpoints[-1].row >= CHECKPOINT:
             self._keep_checkpoint()
 
@@ -225,7 +230,17 @@ def count_passings(row: str, following: str, site: int, leaving: int, end: int) 
 
 def count_vehicle_steps(trips: Trips, window: Window) -> int:
     """Return the cars on the road in all rows of a window together."""
-    return sum(trips.cars[max(window.first + 1 - trips.first, 0):max(window.last + 1 - trips.first, 0)])
+    return sum(cut_rows(trips, trips.cars, window))
+
+
+def count_approach_steps(trips: Trips, window: Window) -> int:
+    """Return the cars on the approach in all rows of a window together."""
+    return sum(cut_rows(trips, trips.on_approach, window))
+
+
+def cut_rows(trips: Trips, numbers: Sequence[int], window: Window) -> Sequence[int]:
+    """Return those of the numbers of all rows that belong to a window."""
+    return numbers[max(window.first + 1 - trips.first, 0):max(window.last + 1 - trips.first, 0)]
 
 
 def compute_vehicle_hours(trips: Trips, window: Window) -> float:

@@ -21,10 +21,10 @@ from ..figures.trips import DetectorCount, Window
 from ..program.errors import Fault
 from ..program.lab import RoadLab
 from ..program.wire import Record
-from ..roads.demand import Effort, Rates, convert_demands
-from ..roads.freeway import Figures, Road, make_road, to_rates, warm_up_minutes, widen_inlet, with_warm_up
+from ..roads.demand import Effort, Rates
+from ..roads.freeway import Figures, Road, convert_road_demands, make_road, to_rates, warm_up_minutes, widen_inlet, with_warm_up
 from ..roads.road_scripts import Chances, make_commands, make_plan, make_base_edits
-from ..roads.units import HOUR, count_things, to_km
+from ..roads.units import HOUR, count_things
 from .measured import Measured, Series
 
 MOST_AT_INLET = 1_780.0
@@ -140,9 +140,7 @@ def make_model(name: str, figures: Figures, measured: Measured, factor: float | 
     road.notes += notes
     # Detectors after the first inlet, and at and after each ramp, count the cars that enter.
     road.detectors += [1, *(gate for place, _ in road.inlets[1:] for gate in (place, place + 1))]
-    places, demands = [place for place, _ in road.inlets], [demand for _, demand in road.inlets]
-    chances = convert_demands(places, demands, road.drivers, effort, progress)
-    return Model(name, measured, given, road, chances, figures.seed, warm * 60)
+    return Model(name, measured, given, road, convert_road_demands(road, effort, progress), figures.seed, warm * 60)
 
 
 # Days
@@ -301,7 +299,7 @@ def make_interval_records(model: Model, days: Sequence[Day]) -> list[Record]:
         for place, cars in enumerate(series.cars):
             flows = [day[index][place].cars * HOUR / measured.interval for day in days]
             mean, half = estimate_days(flows)
-            found.append({"station": series.station.name, "km": round(to_km(model.road.detectors[index]), 4),
+            found.append({"station": series.station.name, "km": round(model.road.to_km(model.road.detectors[index]), 4),
                           "time": measured.clock.to_text(place * measured.interval),
                           "measured cars/h/lane": None if cars is None else round(cars * HOUR / measured.interval, 1),
                           "simulated cars/h/lane": round(mean, 1), "± cars/h/lane": None if half is None else round(half, 1),

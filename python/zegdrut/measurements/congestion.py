@@ -240,7 +240,7 @@ class Lost(NamedTuple):
 
 def list_segments(model: Model) -> list[Segment]:
     """Return the segments of the stations with speeds, or an empty list if fewer than two stations have speeds."""
-    known = [(one, free, min(max(round(one.station.km * CELLS_A_KM), 0), model.road.length))
+    known = [(one, free, min(max(model.road.to_cell(one.station.km), model.road.approach), model.road.length))
              for one in model.measured.main if (free := find_free_speed(one)) is not None]
     cells = [cell for _, _, cell in known]
     if len(known) < 2:

@@ -204,11 +204,13 @@ Field = Sequence[Sequence["float | None"]]
 
 def draw_field(speeds: Field, title: str, clock: Clock, first: int, last: int, kilometres: float, width: int = WIDTH,
                height: int = 230, offset: int = 0, closed: Sequence[tuple[int, int, float, float]] = (), ramps: Sequence[float] = (),
-               detectors: Sequence[float] = ()) -> str:
-    """Return a space-time diagram as SVG: time to the right, km upwards, speeds in the colour scale.
+               detectors: Sequence[float] = (), begin: float = 0.0) -> str:
+    """Return a space-time diagram as SVG: time to the right, km upwards, speeds in the colour scale, from km `begin` to `kilometres`.
 
     closed: closures as (from step, to step, from km, to km), drawn in black.
     ramps, detectors: km that are marked at the right edge."""
+    def y(km: float) -> float:
+        return TOP + depth * (kilometres - km) / (kilometres - begin)
     columns = [[NO_CAR if speed is None or math.isnan(speed) else find_colour(speed) for speed in reversed(one)] for one in speeds]
     rows: list[list[Colour]] = [list(row) for row in zip(*columns)]
     inner, depth = width - LEFT - RIGHT, height - TOP - BOTTOM
@@ -219,23 +221,22 @@ def draw_field(speeds: Field, title: str, clock: Clock, first: int, last: int, k
              f'style="image-rendering: pixelated" href="data:image/png;base64,{data}"/>'
              f'<text transform="translate(12 {TOP + depth / 2}) rotate(-90)" text-anchor="middle">km</text>']
     parts += draw_times(clock, first, last, offset, lambda date: LEFT + inner * (date - first) / (last - first), TOP + depth)
-    step = choose_tick(kilometres, 5)
-    marks = [number * step for number in range(math.floor(kilometres / step) + 1)]
+    step = choose_tick(kilometres - begin, 5)
+    marks = [number * step for number in range(math.ceil(begin / step), math.floor(kilometres / step) + 1)]
     for km in [*(one for one in marks if kilometres - one > step / 3), kilometres]:
-        place = TOP + depth * (1 - km / kilometres)
-        parts.append(f'<line x1="{LEFT - 4}" x2="{LEFT}" y1="{place:.1f}" y2="{place:.1f}" stroke="#333"/>'
-                     f'<text x="{LEFT - 6}" y="{place + 4:.1f}" text-anchor="end">{km:.3g}</text>')
+        parts.append(f'<line x1="{LEFT - 4}" x2="{LEFT}" y1="{y(km):.1f}" y2="{y(km):.1f}" stroke="#333"/>'
+                     f'<text x="{LEFT - 6}" y="{y(km) + 4:.1f}" text-anchor="end">{km:.3g}</text>')
     parts += draw_no_data(speeds, inner, depth)
-    for begin, end, low, high in closed:
-        left, right = (LEFT + inner * (min(max(date, first), last) - first) / (last - first) for date in (begin, end))
-        up, down = (TOP + depth * (1 - km / kilometres) for km in (high, low))
+    for *dates, low, high in closed:
+        left, right = (LEFT + inner * (min(max(date, first), last) - first) / (last - first) for date in dates)
+        up, down = y(high), y(low)
         if right > left:
             middle, tall, wide = (up + down) / 2, max(down - up, LEAST_CLOSURE), max(right - left, LEAST_CLOSURE)
             parts.append(f'<rect class="closure" x="{left:.1f}" y="{middle - tall / 2:.1f}" width="{wide:.1f}" height="{tall:.1f}" fill="#000" '
                          'stroke="#fff" stroke-width="1.2"/>')
     right = width - RIGHT
-    parts += [draw_ramp(right, TOP + depth * (1 - km / kilometres)) for km in ramps]
-    parts += [draw_detector(right, TOP + depth * (1 - km / kilometres)) for km in detectors]
+    parts += [draw_ramp(right, y(km)) for km in ramps]
+    parts += [draw_detector(right, y(km)) for km in detectors]
     parts.append(f'<rect x="{LEFT}" y="{TOP}" width="{inner}" height="{depth}" fill="none" stroke="#333"/></svg>')
     return "".join(parts)
 

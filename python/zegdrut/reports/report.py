@@ -12,13 +12,14 @@ from dataclasses import dataclass
 from typing import Callable, Sequence
 
 from ..figures.intervals import average_known
-from ..figures.queues import WAITING_KEYS, Waits, average_lost, find_inlets, is_shown, run_day, with_bounds, with_lost
+from ..figures.queues import BEFORE_KEYS, Waits, average_lost, find_inlets, is_shown, run_day, with_bounds, with_lost
 from ..figures.simulation import RoadRun, simulate_days, split_window
-from ..figures.table import FigureRow, Mean, average_days, compare, list_figures, measure_day
+from ..figures.table import FREEWAY, FigureRow, Mean, average_days, compare, list_figures, measure_day
 from ..figures.trips import Window
 from ..program.scripts import Script
 from ..program.wire import Record
 from ..roads.demand import Rates
+from ..roads.units import Units
 
 MOST_SIDES = 4
 """The most roads of a report."""
@@ -38,12 +39,14 @@ class Side:
     """The script without works, if cars that cannot enter wait before the road; otherwise they are lost."""
     waits: bool = True
     """Unless it is set, cars are lost even if `free` is given, and the figures of lost demand count them."""
+    units: Units = FREEWAY
+    """The units of places and times, with the cell at km 0."""
 
 
 def run_side(side: Side, seed: int | str, window: Window, with_rows: bool) -> RoadRun:
     """Run a day of a road, and count in a window."""
     return run_day(side.script.with_seed(seed), None if side.free is None else side.free.with_seed(seed), window, side.demands, period=PERIOD,
-                   with_rows=with_rows, waits=side.waits)
+                   with_rows=with_rows, waits=side.waits, origin=side.units.origin)
 
 
 def run_side_of(window: Window, job: tuple[Side, int | str, bool]) -> RoadRun:
@@ -71,7 +74,8 @@ def make_tables(sides: Sequence[Side], days: Sequence[Sequence[RoadRun]], window
     """Return a table for each road after the first one, compared with the first, or the table of a road alone. All have the same figures."""
     waits = [list(map(Waits.of, runs)) for runs in days]
     inlets = find_inlets(waits)
-    figures = [figure for figure in list_figures(sides[0].script.plan) if figure.key in (*KEYS, *WAITING_KEYS) and is_shown(figure, inlets)
+    units = sides[0].units
+    figures = [figure for figure in list_figures(sides[0].script.plan, units) if figure.key in (*KEYS, *BEFORE_KEYS) and is_shown(figure, inlets, units)
                and (figure.of_change is None or len(sides) > 1)]
     pairs = [[0, place] for place in range(1, len(sides))] or [[0]]
     tables = []
@@ -79,7 +83,7 @@ def make_tables(sides: Sequence[Side], days: Sequence[Sequence[RoadRun]], window
         names = [sides[place].name for place in places]
         rows = compare(figures, [measure_day(figures, *(runs[place] for place in places)) for runs in days])
         tables.append(with_lost(with_bounds(rows, names, [[day[place] for place in places] for day in waits]), names,
-                                [average_lost([runs[place] for runs in days]) for place in places]))
+                                [average_lost([runs[place] for runs in days], units) for place in places]))
     return tables
 
 

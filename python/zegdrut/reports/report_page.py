@@ -17,7 +17,7 @@ from ..figures.trips import Window
 from ..program.programs import program_path, read_record, sum_file
 from ..roads.clock import Clock
 from ..roads.demand import Rates
-from ..roads.units import CELLS_A_KM, count_things, format_fixed, format_km, to_km
+from ..roads.units import Units, count_things, format_fixed, to_km
 from .pictures import AFTER, INLETS, ROADS, Chart, Line, draw_field, draw_scale, make_speed_field
 from .report import PERIOD, Side, list_means, make_flow_series, make_speed_series
 
@@ -72,6 +72,13 @@ class Contents:
     """The rows of further roads. `rows` compares the second road with the first, and each of these a further road with the first."""
     remarks: Sequence[str] = ()
     """Sentences that the table of figures needs."""
+    has_approach: bool = False
+    """Whether the space-time diagrams show the approach, too."""
+
+    @property
+    def units(self) -> Units:
+        """Return the units of places, with the cell at km 0."""
+        return self.sides[0].units
 
 
 def make_table_html(sides: Sequence[Side], tables: Sequence[Sequence[FigureRow]], days: int, remarks: Sequence[str] = ()) -> str:
@@ -123,13 +130,16 @@ def make_grid_html(head: Sequence[str], lines: Sequence[Sequence[str]]) -> str:
 def make_fields_html(contents: Contents) -> str:
     """Return the space-time diagrams of the first day, with one scale."""
     first, last = contents.window
-    ramps = [to_km(int(cell)) for cell, _ in contents.sides[0].script.plan["inlets"] if cell]
+    origin = contents.units.origin
+    begin = 0 if contents.has_approach else origin
+    ramps = [to_km(int(cell) - origin) for cell, _ in contents.sides[0].script.plan["inlets"] if cell]
     drawn = []
     for place, (side, day) in enumerate(zip(contents.sides, contents.days[0])):
         closed = contents.closed[place] if place < len(contents.closed) else []
-        drawn.append(draw_field(make_speed_field(day.rows, STEPS_A_PIECE, CELLS_A_PIECE), f"Space-mean speed: {side.name} (seed {contents.seed})",
-                                contents.clock, first, last, contents.length / CELLS_A_KM, width=900, height=210, closed=closed, ramps=ramps,
-                                detectors=[to_km(cell) for cell in contents.detectors]))
+        speeds = make_speed_field([row[begin:] for row in day.rows], STEPS_A_PIECE, CELLS_A_PIECE)
+        drawn.append(draw_field(speeds, f"Space-mean speed: {side.name} (seed {contents.seed})", contents.clock, first, last,
+                                to_km(contents.length - origin), width=900, height=210, closed=closed, ramps=ramps,
+                                detectors=[to_km(cell - origin) for cell in contents.detectors], begin=to_km(begin - origin)))
     return "".join([*drawn, draw_scale(900, has_ramps=bool(ramps), has_detectors=bool(contents.detectors))])
 
 
@@ -138,8 +148,8 @@ def make_charts_html(contents: Contents) -> str:
     (first, last), parts = contents.window, []
     colours = ROADS if len(contents.sides) > 1 else [AFTER]
     for detector, cell in enumerate(contents.detectors):
-        flow = Chart(f"Flow, km {format_km(cell)}", "cars/h", contents.clock, first, last)
-        speed = Chart(f"Time-mean speed, km {format_km(cell)}", "km/h", contents.clock, first, last, top=135.0)
+        flow = Chart(f"Flow, {contents.units.place(cell)}", "cars/h", contents.clock, first, last)
+        speed = Chart(f"Time-mean speed, {contents.units.place(cell)}", "km/h", contents.clock, first, last, top=135.0)
         for place, (side, colour) in enumerate(zip(contents.sides, colours)):
             of_side = [both[place] for both in contents.days]
             series = make_flow_series(of_side, detector, contents.window)

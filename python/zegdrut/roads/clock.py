@@ -123,11 +123,10 @@ class Clock:
             return self.to_text(step) + days
         return local.isoformat(sep=" ", timespec="seconds" if local.second else "minutes")
 
-    def shift(self, steps: int) -> tuple[str, str]:
-        """Return the fields `begin` and `date` of a clock that begins some steps later, or earlier if `steps` is negative."""
+    def shift(self, steps: int) -> Clock:
+        """Return the clock of a run that begins some steps later, or earlier if `steps` is negative."""
         local = self.to_datetime(steps)
-        begin = f"{local:%H:%M:%S}" if local.second else f"{local:%H:%M}"
-        return begin + (format_offset(local) if local.fold else ""), local.date().isoformat()
+        return Clock(local.hour * 3_600 + local.minute * 60 + local.second, None if self.date is None else local.date(), self.zone, local.fold)
 
     def to_datetime(self, step: int) -> datetime.datetime:
         """Return the date and time of a step. Without a date the day is 1 January 2001."""
@@ -166,12 +165,6 @@ class Clock:
             if one.utcoffset() == wanted:
                 return instant
         raise InvalidTime(f"{name}: the offset from UTC in {self.zone} is then {both[0].strftime('%z')}")
-
-
-def format_offset(local: datetime.datetime) -> str:
-    """Return the offset from UTC of a time with a time zone: "+01:00"."""
-    offset = f"{local:%z}"
-    return f"{offset[:3]}:{offset[3:5]}"
 
 
 def read_date(value: object, field: str) -> datetime.date:

@@ -4,14 +4,14 @@ from __future__ import annotations
 import dataclasses
 import math
 from dataclasses import dataclass, field
-from typing import Callable, Iterator, NamedTuple, Optional, Sequence
+from typing import Callable, Iterator, Optional, Sequence, TypeVar
 
 from ..program.errors import Fault as Fault
 from .capacity import LIMIT, describe_capacity, find_capacity
 from .clock import Clock
 from .demand import BeyondCapacity, Drivers, Effort, Rates, convert_demands, measure_admission
 from .freeway_files import Demand, Figures as Figures, Section as Section, Stalled as Stalled
-from .units import ALWAYS, CELLS_A_KM, KMH, format_distance, to_cells, to_km, to_limit, to_chance, to_steps
+from .units import ALWAYS, CELLS_A_KM, KMH, METRES, Units, format_distance, to_cells, to_km, to_limit, to_chance, to_steps
 
 CELLS = range(8, 8_193)
 """The allowed numbers of cells of a road."""
@@ -21,8 +21,13 @@ FASTEST = 9
 ENTRY = 0.3
 """The km at the beginning of the road where nobody is slowed, if slowed drivers could not admit the main demand. An inlet without slowing
 admits up to 1,800 cars per hour. Five minutes of a real freeway often bring more cars than an inlet with slowed drivers admits."""
+SLOWEST = 0.5
+"""The lowest free speed, in cells per step, with which free travel times are computed."""
 NEARLY_FULL = 0.98
 """The share of its capacity that an inlet with slowed drivers must not exceed."""
+
+
+V = TypeVar("V")
 
 
 # The road in cells and steps
@@ -33,9 +38,11 @@ RoadEdit = tuple[str, int, int, int]
 
 @dataclass
 class Road:
-    """A road in cells and steps. `notes` has a sentence for each figure that was rounded."""
+    """A road in cells and steps. `notes` has a sentence for each figure that was rounded. Cells and zones count from the head of the
+    approach, steps from the beginning of the run."""
 
     length: int
+    """The cells of the approach and of the road after it."""
     zone: int
     limit: int
     slowing: int
@@ -51,6 +58,31 @@ class Road:
     """None if the file has no begin: times are then minutes."""
     entry: int = 0
     """The number of zones at the beginning of the road where nobody is slowed."""
+    approach: int = 0
+    """The cells of the approach, so the cell at km 0."""
+    lead: int = 0
+    """The steps before minute 0."""
+    early: int = 0
+    """The steps in which a free car drives over the approach."""
+
+    @property
+    def units(self) -> Units:
+        """Return the units in which places and times of this road are shown."""
+        return Units(METRES, 1.0, self.approach, self.lead)
+
+    def to_km(self, cell: int) -> float:
+        """Return the km at which a cell begins."""
+        return to_km(cell - self.approach)
+
+    def to_cell(self, km: float) -> int:
+        """Return the cell of a km."""
+        return to_cells(km) + self.approach
+
+    @property
+    def demands(self) -> list[Rates]:
+        """Return the demand of each inlet when it is on the road: that of the main inlet when it reaches km 0."""
+        main, *others = (demand for _, demand in self.inlets)
+        return [postpone(main, self.early), *others]
 
     @property
     def base_edits(self) -> list[RoadEdit]:
@@ -63,7 +95,7 @@ class Road:
 
     def format_time(self, step: int) -> str:
         """Return the time of a step: a clock time, or a minute if the file has no begin."""
-        return f"minute {step / 60:g}" if self.clock is None else self.clock.to_text(step)
+        return f"minute {(step - self.lead) / 60:g}" if self.clock is None else self.clock.to_text(step)
 
     @property
     def drivers(self) -> Drivers:
@@ -76,16 +108,40 @@ class Road:
         return -(-self.length // self.zone)
 
 
-def measure_chances(road: Road, progress: Callable[[int], None] = lambda inlet: None) -> list[list[tuple[int, int]]]:
-    """Measure the inflow chances over time that admit the demand of each inlet: a list of (step, 1/65,536) for each.
+Chances = list[list[tuple[int, int]]]
+"""The inflow chances of each inlet over time: a list of (step, 1/65,536), each in force until the next."""
 
-    Takes some seconds. Fault: an inlet cannot admit its demand."""
-    cells, demands = [cell for cell, _ in road.inlets], [demand for _, demand in road.inlets]
+
+def convert_road_demands(road: Road, effort: Effort = Effort(), progress: Callable[[int], None] = lambda inlet: None) -> Chances:
+    """Measure the inflow chances that admit the demand of each inlet. The inlets are measured without an approach, which changes no flow.
+
+    Takes some seconds. BeyondCapacity: an inlet cannot admit its demand."""
+    main, *ramps = convert_demands(list_free_cells(road), road.demands, road.drivers, effort, progress)
+    return [bring_forward(main, road.early), *ramps]
+
+
+def list_free_cells(road: Road) -> list[int]:
+    """Return the cells that the inlets would have without an approach."""
+    return [max(cell - road.approach, 0) for cell, _ in road.inlets]
+
+
+def measure_chances(road: Road, progress: Callable[[int], None] = lambda inlet: None) -> Chances:
+    """Measure the inflow chances as `convert_road_demands` does. Fault: an inlet cannot admit its demand."""
     try:
-        return convert_demands(cells, demands, road.drivers, progress=progress)
+        return convert_road_demands(road, progress=progress)
     except BeyondCapacity as fault:
-        raise Fault(f"a demand of {fault.demand:g} cars per hour at km {format_distance(to_km(cells[fault.inlet]))} exceeds the capacity of the inlet, "
-                    f"{fault.capacity:.0f} ({fault.drivers}): ask for less") from None
+        raise Fault(f"a demand of {fault.demand:g} cars per hour at km {format_distance(road.to_km(road.inlets[fault.inlet][0]))} exceeds the capacity "
+                    f"of the inlet, {fault.capacity:.0f} ({fault.drivers}): ask for less") from None
+
+
+def bring_forward(changes: Sequence[tuple[int, V]], steps: int) -> list[tuple[int, V]]:
+    """Return the values over time of some steps earlier, from step 0 on."""
+    return [*{max(step - steps, 0): value for step, value in changes}.items()]
+
+
+def postpone(changes: Sequence[tuple[int, V]], steps: int) -> list[tuple[int, V]]:
+    """Return the values over time of some steps later. The first one still begins at step 0."""
+    return [(step + steps if step else 0, value) for step, value in changes]
 
 
 def widen_inlet(figures: Figures, effort: Effort = Effort()) -> Figures:
@@ -111,7 +167,19 @@ def widen_inlets(roads: Sequence[Figures]) -> list[Figures]:
 
 def warm_up_minutes(figures: Figures) -> int:
     """Return the minutes that fill the road before the window: twice the free travel time, rounded up to five minutes."""
-    return math.ceil(2 * figures.length / max(figures.limit, KMH) * 60 / 5) * 5
+    return math.ceil(2 * (figures.approach + figures.length) / max(figures.limit, KMH) * 60 / 5) * 5
+
+
+def find_free_speed(figures: Figures) -> float:
+    """Return the mean speed of a free car in cells per step."""
+    return max(to_limit(figures.limit) - figures.slowing, SLOWEST)
+
+
+def with_lead(figures: Figures) -> Figures:
+    """Return the figures of a run that begins earlier, by one free travel time and two minutes, if the road has an approach: the first
+    cars have then reached the road's end at minute 0."""
+    seconds = (figures.approach + figures.length) * CELLS_A_KM / find_free_speed(figures)
+    return with_warm_up(figures, math.ceil(seconds / 60 + 2) if figures.approach else 0)
 
 
 def with_warm_up(figures: Figures, minutes: float) -> Figures:
@@ -121,10 +189,9 @@ def with_warm_up(figures: Figures, minutes: float) -> Figures:
         return figures
     sections = [one._replace(begin=one.begin + minutes if one.begin > 0 else 0, end=one.end + minutes) for one in figures.sections]
     stalled = [one._replace(begin=one.begin + minutes, end=one.end + minutes) for one in figures.stalled]
-    begin, date = figures.clock.shift(-to_steps(minutes))
     return dataclasses.replace(
         figures, main=shift_demand(figures.main, minutes), ramps=[(km, shift_demand(demand, minutes)) for km, demand in figures.ramps],
-        sections=sections, stalled=stalled, minutes=figures.minutes + minutes, begin=begin, date=None if figures.date is None else date)
+        sections=sections, stalled=stalled, minutes=figures.minutes + minutes, lead=figures.lead + minutes)
 
 
 def shift_demand(demand: Demand, minutes: float) -> Demand:
@@ -163,14 +230,20 @@ def make_checked_road(figures: Figures) -> Road:
         raise Fault(f"minutes {figures.minutes:g} is out of range: at most {MOST_STEPS // 60:,}")
     notes: list[str] = []
     length = note_if_rounded(notes, "a road of", figures.length, "km", to_cells(figures.length), to_km)
-    road = Road(length, choose_zone_width(notes, figures, length), find_limit(notes, "the limit", figures.limit), to_chance(figures.slowing),
-                [(0, to_rates(figures.main))], [], [], to_steps(figures.minutes), notes,
-                None if figures.start is None else to_chance(figures.start), None if figures.begin is None else figures.clock)
+    zone = choose_zone_width(notes, figures, length)
+    approach = count_approach_zones(figures, zone) * zone
+    if approach:
+        note_if_rounded(notes, "an approach of", figures.approach, "km", approach, to_km)
+    early = round(approach / find_free_speed(figures))
+    road = Road(approach + length, zone, find_limit(notes, "the limit", figures.limit), to_chance(figures.slowing),
+                [(0, bring_forward(to_rates(figures.main), early))], [], [], to_steps(figures.minutes), notes,
+                None if figures.start is None else to_chance(figures.start), None if figures.begin is None else figures.clock,
+                approach=approach, lead=to_steps(figures.lead), early=early)
     if figures.entry:
         road.entry = find_entry(notes, figures.entry, road)
     for km, demand in sorted(figures.ramps, key=lambda ramp: ramp[0]):
-        road.inlets.append((find_cell(notes, "the ramp at", km, length), to_rates(demand)))
-    road.detectors = [find_cell(notes, "the detector at", km, length) for km in figures.detectors]
+        road.inlets.append((find_cell(notes, "the ramp at", km, road), to_rates(demand)))
+    road.detectors = [find_cell(notes, "the detector at", km, road) for km in figures.detectors]
     figures = replace_capacities(notes, figures, road)
     road.edits = [*make_section_edits(notes, figures, road), *make_stalled_edits(notes, figures, road)]
     return road
@@ -181,8 +254,9 @@ def find_entry(notes: list[str], km: float, road: Road) -> int:
     if km > to_km(road.length) + 1e-9:
         raise Fault(f"entry {km:g} km is longer than the road of {to_km(road.length):g} km")
     zones = max(-(-find_bound(km * CELLS_A_KM, road.zone, road.length) // road.zone), 1)
-    notes.append(f"nobody is slowed on the first {format_distance(to_km(min(zones * road.zone, road.length)))} km (`entry`), so that the inlet admits "
-                 "up to 1,800 cars per hour")
+    where = " of the approach" if road.approach else ""
+    notes.append(f"nobody is slowed on the first {format_distance(to_km(min(zones * road.zone, road.length)))} km{where} (`entry`), so that the inlet "
+                 "admits up to 1,800 cars per hour")
     return zones
 
 
@@ -193,12 +267,12 @@ def note_if_rounded(notes: list[str], what: str, asked: float, unit: str, taken:
     return taken
 
 
-def find_cell(notes: list[str], what: str, km: float, length: int) -> int:
-    """Return the cell of a km, after the first cell and before the deleted zone. Fault: it is not on the road."""
-    cell = to_cells(km)
-    if not 1 <= cell <= length - 2:
-        raise Fault(f"{what} {km:g} km is not on the road: {to_km(1):g} to {to_km(length - 2):g} km")
-    return note_if_rounded(notes, what, km, "km", cell, to_km)
+def find_cell(notes: list[str], what: str, km: float, road: Road) -> int:
+    """Return the cell of a km, from km 0 on, after the first cell and before the deleted zone. Fault: it is not on the road."""
+    cell, first, last = road.to_cell(km), max(road.approach, 1), road.length - 2
+    if not first <= cell <= last:
+        raise Fault(f"{what} {km:g} km is not on the road: {road.to_km(first):g} to {road.to_km(last):g} km")
+    return note_if_rounded(notes, what, km, "km", cell, road.to_km)
 
 
 def note_rounded_times(notes: list[str], what: str, *minutes: float) -> None:
@@ -217,14 +291,44 @@ def find_limit(notes: list[str], what: str, kmh: float) -> int:
 
 def choose_zone_width(notes: list[str], figures: Figures, length: int) -> int:
     """Return the width of a zone in cells: the given one, or the one whose zones cover the sections best."""
-    least = -(-length // MOST_ZONES)
+    least, asked = -(-length // MOST_ZONES), to_cells(figures.approach)
+    widths: Sequence[int] = range(max(length, asked), least - 1, -1)
     if figures.zone is not None:
         width = note_if_rounded(notes, "a zone of", figures.zone, "km", max(to_cells(figures.zone), 1), to_km)
         if width < least:
             raise Fault(f"zones of {figures.zone:g} km are more than {MOST_ZONES}: use at least {to_km(least):g} km")
-        return width
-    # Among widths that fit equally well, take the widest.
-    return min(range(length, least - 1, -1), key=lambda width: sum_misfit(figures, width, length))
+        widths = [width]
+    most = max(find_longest_approach(width, length) for width in widths)
+    if figures.approach and max(asked, 1) > most:
+        zones, room = "" if figures.zone is None else f" with zones of {figures.zone:g} km", format_distance(to_km(most))
+        raise Fault(f"approach {figures.approach:g} km is too long: a road of {figures.length:g} km{zones} leaves {room} km, because approach and road "
+                    f"together have at most {MOST_ZONES} zones and {CELLS[-1]:,} cells: " + (f"use at most {room} km" if most else "leave it out")
+                    + (", or use wider zones" if zones else ""))
+    return choose_width([width for width in widths if has_room(figures, width, length)], [figures], length)
+
+
+def find_longest_approach(width: int, length: int) -> int:
+    """Return the most cells that an approach of whole zones can have before a road of some length."""
+    return min(MOST_ZONES - -(-length // width), (CELLS[-1] - length) // width) * width
+
+
+def count_approach_zones(figures: Figures, width: int) -> int:
+    """Return the number of zones of the approach, at least one if there is an approach."""
+    return max(round(to_cells(figures.approach) / width), 1) if figures.approach else 0
+
+
+def has_room(figures: Figures, width: int, length: int) -> bool:
+    """Return whether zones of some width leave room for the approach."""
+    return count_approach_zones(figures, width) * width <= find_longest_approach(width, length)
+
+
+def choose_width(widths: Sequence[int], roads: Sequence[Figures], length: int) -> int:
+    """Return the width whose zones cover the sections of all roads best, of these the one that fits the approach best, and of these the
+    widest."""
+    def compare(width: int) -> tuple[float, int, int]:
+        approach = count_approach_zones(roads[0], width) * width
+        return sum(sum_misfit(road, width, length) for road in roads), abs(approach - to_cells(roads[0].approach)), -width
+    return min(widths, key=compare)
 
 
 def sum_misfit(figures: Figures, width: int, length: int) -> float:
@@ -244,7 +348,8 @@ def find_bound(place: float, width: int, length: int) -> int:
 
 def find_zones(section: Section, road: Road) -> range:
     """Return the zones of a section."""
-    return find_covering_zones(section, road.zone, road.length)
+    zones, before = find_covering_zones(section, road.zone, road.length - road.approach), road.approach // road.zone
+    return range(zones.start + before, zones.stop + before)
 
 
 def find_covering_zones(section: Section, width: int, length: int) -> range:
@@ -286,7 +391,7 @@ def make_section_edits(notes: list[str], figures: Figures, road: Road) -> Iterat
         if not 0 <= section.first < section.last <= figures.length or not 0 <= section.begin < section.end:
             times = [figures.format_time(section.begin), figures.format_time(section.end).removeprefix("minute ")]
             raise Fault(f"{name}, {' to '.join(times)}: it must begin before it ends, on the road and in the run")
-        first, last = to_km(zones[0] * road.zone), to_km(min((zones[-1] + 1) * road.zone, road.length))
+        first, last = road.to_km(zones[0] * road.zone), road.to_km(min((zones[-1] + 1) * road.zone, road.length))
         if abs(first - section.first) > 1e-9 or abs(last - section.last) > 1e-9:
             notes.append(f"{name}: rounded to km {format_distance(first)} to {format_distance(last)}, because zones are {format_distance(to_km(road.zone))} km wide")
         if section.limit is not None:
@@ -321,7 +426,7 @@ def find_zone_value(kind: str, over: list[Section], road: Road, zone: int, step:
 def make_stalled_edits(notes: list[str], figures: Figures, road: Road) -> Iterator[RoadEdit]:
     """Yield the edits that close and open the cell of each stalled car."""
     for car in figures.stalled:
-        cell = find_cell(notes, "the stalled car at", car.at, road.length)
+        cell = find_cell(notes, "the stalled car at", car.at, road)
         note_rounded_times(notes, f"the stalled car at km {car.at:g}", car.begin, car.end)
         if not 0 <= car.begin < car.end:
             times = [figures.format_time(car.begin), figures.format_time(car.end).removeprefix("minute ")]
@@ -335,7 +440,7 @@ Shape = tuple[str, int, int, int, Optional[int], int]
 """A value on objects over time: kind, first and last index, first step, step after the last (None: it has no end), value."""
 
 
-def make_shapes(figures: Figures, road: Road, chances: list[list[tuple[int, int]]]) -> Iterator[Shape]:
+def make_shapes(figures: Figures, road: Road, chances: Chances) -> Iterator[Shape]:
     """Yield the demand over time, the sections and the stalled cars as shapes, from the lowest layer to the topmost.
 
     The last demand of an inlet and the slow-to-start chance of the whole road stay in force after the file's last minute."""
@@ -351,19 +456,13 @@ def make_shapes(figures: Figures, road: Road, chances: list[list[tuple[int, int]
             if value is not None:
                 yield kind, zones[0], zones[-1], to_steps(section.begin), to_steps(section.end), made(value)
     for car in figures.stalled:
-        yield "block", to_cells(car.at), to_cells(car.at), to_steps(car.begin), to_steps(car.end), 1
+        yield "block", road.to_cell(car.at), road.to_cell(car.at), to_steps(car.begin), to_steps(car.end), 1
 
 
 # Changes afterwards
 
 Change = tuple[str, int, int, Optional[int]]
 """An edit: kind, index, step and value. None is a withdrawal."""
-
-
-def make_roads(figures: Figures, then: Figures | None) -> tuple[Road, Road | None]:
-    """Return the road as planned and as it turned out, with the zones that fit the sections of both best."""
-    road, *others = make_all_roads([figures] if then is None else [figures, then])
-    return road, others[0] if others else None
 
 
 def make_all_roads(figures: Sequence[Figures]) -> list[Road]:
@@ -397,10 +496,10 @@ def describe_change(road: Road, kind: str, indexes: range, step: int, value: int
     since = f"from {road.format_time(step)} (step {step}) on"
     if kind == "block":
         said = f"closure {since} withdrawn" if value is None else f"{'closed' if value else 'open'} {since}"
-        return f"km {format_distance(to_km(indexes[0]))} (cell {indexes[0]}): {said}"
+        return f"km {format_distance(road.to_km(indexes[0]))} (cell {indexes[0]}): {said}"
     first, last = indexes[0] * road.zone, min((indexes[-1] + 1) * road.zone, road.length)
     zones = f"zone {indexes[0]}" if len(indexes) == 1 else f"zones {indexes[0]}-{indexes[-1]}"
-    where = f"km {format_distance(to_km(first))} to {format_distance(to_km(last))} ({zones}, cells {first} to {last - 1})"
+    where = f"km {format_distance(road.to_km(first))} to {format_distance(road.to_km(last))} ({zones}, cells {first} to {last - 1})"
     name = {"limit": "limit", "slow": "slowing", "start": "slowing of standing cars"}[kind]
     if value is None:
         return f"{where}: {name} {since} withdrawn"

@@ -74,6 +74,10 @@ class Figures:
     """The slowing chance of standing cars (slow-to-start); None: the same as for all cars."""
     entry: float | None = None
     """The km at the beginning of the road where nobody is slowed; None: 0, or ENTRY if the inlet needs it (`freeway.widen_inlet`)."""
+    approach: float = 0.0
+    """The km of road before km 0, on which a queue has room."""
+    lead: float = 0.0
+    """The minutes of the run before the minute 0 of the file. A file cannot set it."""
     source: Path | None = field(default=None, compare=False)
     """The file that these figures come from. A file cannot set it."""
 
@@ -81,13 +85,13 @@ class Figures:
     def clock(self) -> Clock:
         """Return the clock of the run. Fault: begin, date or time zone is invalid."""
         try:
-            return Clock.read(self.begin, self.date, self.timezone)
+            return Clock.read(self.begin, self.date, self.timezone).shift(-to_steps(self.lead))
         except InvalidTime as fault:
             raise Fault(str(fault)) from None
 
     def format_time(self, minute: float) -> str:
         """Return a time of the run: a clock time, or a minute if the file has no begin."""
-        return f"minute {minute:g}" if self.begin is None else self.clock.to_text(to_steps(minute))
+        return f"minute {minute - self.lead:g}" if self.begin is None else self.clock.to_text(to_steps(minute))
 
     def override_works(self, path: Path) -> Figures:
         """Replace sections and stalled cars by those of a file. Fault: the file is invalid."""
@@ -101,7 +105,7 @@ class Figures:
             given = json.loads(path.read_text(encoding="utf-8"))
         except ValueError as fault:
             raise Fault(f"{path} is not JSON: {fault}") from None
-        check_names(given, known or [one.name for one in dataclasses.fields(self) if one.name != "source"], str(path))
+        check_names(given, known or [one.name for one in dataclasses.fields(self) if one.name not in ("source", "lead")], str(path))
         try:
             found = Reader(path, given, self).figures()
         except InvalidTime as fault:
@@ -116,7 +120,8 @@ class Figures:
 
 NUMBERS = {"length": "a number of km", "limit": "a number of km/h", "slowing": "a chance from 0 to 1", "minutes": "a number of minutes",
            "piece": "a number of minutes", "seed": "a whole number, 0 or more", "zone": "a number of km, or null",
-           "start": "a chance from 0 to 1, or null", "entry": "a number of km, or null"}
+           "start": "a chance from 0 to 1, or null", "entry": "a number of km, or null",
+           "approach": "a number of km, 0 or more"}
 LISTS = {"ramps": "a list of [km, demand]", "detectors": "a list of km", "stretch": "[from km, to km]", "sections": "a list of sections",
          "stalled": "a list of stalled cars"}
 DEMAND = 'cars per hour; or [["06:30", 900], ["07:00", 1400], ..]; or {"csv": "FILE", "column": "NAME"}'
@@ -171,7 +176,7 @@ class Reader:
     def number(self, name: str, value: Json) -> float:
         """Read a number. Fault: it is something else, or out of range."""
         if not is_number(value) or name == "seed" and (not isinstance(value, int) or value < 0) \
-                or name in ("slowing", "start") and not 0 <= value <= 1 or name == "entry" and value < 0:
+                or name in ("slowing", "start") and not 0 <= value <= 1 or name in ("entry", "approach") and value < 0:
             raise self.fault(name, value, NUMBERS[name])
         return value
 

@@ -5,10 +5,7 @@ from typing import Iterable
 
 from ..program.scripts import Script
 from ..program.wire import Fields, PlanLine
-from .freeway import Change, Road
-
-Chances = list[list[tuple[int, int]]]
-"""The inflow chances of each inlet over time: a list of (step, 1/65,536), each in force until the next."""
+from .freeway import Chances as Chances, Change, Road
 
 
 def make_plan(road: Road, chances: Chances, seed: int) -> PlanLine:

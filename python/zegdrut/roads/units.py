@@ -38,10 +38,12 @@ def to_chance(chance: float) -> int:
 
 
 class Units(NamedTuple):
-    """The length of a cell and of a step, if they are known."""
+    """The length of a cell and of a step, if they are known; the cell at km 0, and the step at minute 0."""
 
     metres: float | None = None
     seconds: float | None = None
+    origin: int = 0
+    begin: int = 0
 
     def place(self, cell: int) -> str:
         """Return where a cell is: "km 0.375", or "cell 50" if the length of a cell is unknown."""
@@ -53,7 +55,7 @@ class Units(NamedTuple):
 
     def place_value(self, cell: int) -> str:
         """Return a place for such a column: its km, or its cell if the length of a cell is unknown."""
-        return format_plain(cell * self.metres / 1_000) if self.metres else str(cell)
+        return format_plain((cell - self.origin) * self.metres / 1_000) if self.metres else str(cell)
 
     def km(self, cells: int) -> str:
         """Return cells in km, in brackets; an empty string if the length of a cell is unknown."""
@@ -61,7 +63,7 @@ class Units(NamedTuple):
 
     def minutes(self, steps: int) -> str:
         """Return a step as a minute, in brackets; an empty string if the length of a step is unknown."""
-        return f" (minute {format_plain(steps * self.seconds / 60)})" if self.seconds else ""
+        return f" (minute {format_plain((steps - self.begin) * self.seconds / 60)})" if self.seconds else ""
 
     def kmh(self, limit: int) -> str:
         """Return a limit in km/h, with the usual lengths of cells and steps if they are unknown."""

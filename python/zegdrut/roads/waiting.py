@@ -22,8 +22,8 @@ from ..program.records import Edit, Object
 from ..program.rows import FASTEST
 from ..program.scripts import Script
 from ..program.wire import Fields, PlanLine
-from .freeway import MOST_ZONES, Figures, sum_misfit
-from .units import ALWAYS, to_cells
+from .freeway import MOST_ZONES, Figures, Road, choose_width, has_room, make_all_roads, sum_misfit
+from .units import ALWAYS, to_cells, to_km
 
 PIECE = 600
 """Steps that are read at a time."""
@@ -106,10 +106,19 @@ def find_narrow_zone(width: int, roads: Sequence[Figures]) -> int:
 
     It is `width` if there are none, or if a file sets the width."""
     length = to_cells(roads[0].length)
+    if width <= LONGEST_ZONE or roads[0].zone is not None:
+        return width
     misfits = {one: sum(sum_misfit(road, one, length) for road in roads)
-               for one in (*range(-(-length // MOST_ZONES), LONGEST_ZONE + 1), width)}
+               for one in (width, *range(-(-length // MOST_ZONES), LONGEST_ZONE + 1)) if has_room(roads[0], one, length)}
     narrow = [one for one, misfit in misfits.items() if one <= LONGEST_ZONE and misfit <= misfits[width]]
-    return width if width <= LONGEST_ZONE or roads[0].zone is not None else max(narrow, default=width)
+    return choose_width(narrow or [width], roads, length)
+
+
+def make_waiting_roads(figures: Sequence[Figures]) -> list[Road]:
+    """Return roads before which cars can wait: the first zone has at most LONGEST_ZONE cells, unless a file sets the width."""
+    roads = make_all_roads(figures)
+    zone = find_narrow_zone(roads[0].zone, figures)
+    return roads if zone == roads[0].zone else make_all_roads([dataclasses.replace(one, zone=to_km(zone)) for one in figures])
 
 
 def find_entries(lab: RoadLab, at: str, inlet: int, first: int, last: int) -> list[int]:

@@ -1,0 +1,238 @@
+"""Put an approach before a road, and compare it with a road without one and with a longer road."""
+from __future__ import annotations
+
+import contextlib
+import csv
+import dataclasses
+import io
+import json
+import math
+import re
+import tempfile
+import unittest
+from pathlib import Path
+from typing import Callable, Sequence
+
+from zegdrut import Fault, RoadLab
+from zegdrut.commands import delay, freeway, report
+from zegdrut.commands.freeway import FIGURES
+from zegdrut.commands.metering import Control, make_minute_table, make_site, run_again, run_day as simulate_metered_day
+from zegdrut.figures.queues import run_day
+from zegdrut.figures.trips import Window
+from zegdrut.program.scripts import read_script
+from zegdrut.roads.freeway import Figures, Road, Section, Stalled, make_road, measure_chances, with_lead
+from zegdrut.roads.road_scripts import make_script
+from zegdrut.roads.waiting import ask_edits, find_narrow_zone
+
+CELLS_A_KM = 1_000 / 7.5
+PLAIN = dataclasses.replace(FIGURES, length=1.5, limit=135, slowing=0.2, main=900, ramps=[], sections=[], stalled=[], detectors=[], stretch=(0.3, 1.2),
+                            minutes=20, entry=0.0)
+
+
+def run_command(main: Callable[[Sequence[str]], int], *words: object) -> str:
+    """Run a command, which must end well. Return what it prints."""
+    with contextlib.redirect_stdout(io.StringIO()) as printed, contextlib.redirect_stderr(io.StringIO()) as said:
+        status = main([str(word) for word in words])
+    assert status == 0, said.getvalue()
+    return printed.getvalue()
+
+
+class Cells(unittest.TestCase):
+    def test_places_and_times(self) -> None:
+        """An approach of 3 km, which are 400 cells, moves all cells and zones of a road of 3 km. Zones of 50 cells fit its works. A free car drives 4.8
+        cells a step, so the main demand enters 83 steps before it reaches km 0. The run begins 5 minutes earlier: 800 / 4.8 s and two minutes."""
+        plain = dataclasses.replace(
+            PLAIN, length=3, begin="07:00", main=[(0, 500), (10, 700)], ramps=[(0.75, [(0, 100), (5, 200)])], start=0.5, detectors=[0.375, 1.5],
+            stalled=[Stalled(2.4, 10, 12)], sections=[Section(2.25, 2.625, 0, 15, limit=54, slowing=0.5)])
+        figures = with_lead(dataclasses.replace(plain, approach=3.0))
+        road, before = make_road(figures), make_road(plain)
+        self.assertEqual((road.approach, road.lead, road.early, road.length, road.zone, road.zones), (400, 300, 83, 800, 50, 16))
+        self.assertEqual(road.inlets, [(0, [(0, 500), (900 - 83, 700)]), (500, [(0, 100), (600, 200)])])
+        self.assertEqual(road.detectors, [cell + 400 for cell in before.detectors])
+        self.assertEqual(sorted(road.edits), sorted(
+            (kind, index + (400 if kind == "block" else 8), step + 300 if step else 0, value) for kind, index, step, value in before.edits))
+        self.assertEqual([one[1] for one in road.base_edits], [*range(16)])
+        self.assertEqual(([road.to_km(cell) for cell in (0, 400, 500, 800)], road.units.place(500)), ([-3, 0, 0.75, 3], "km 0.75"))
+        self.assertEqual([road.format_time(step) for step in (0, 300, 900)], ["06:55", "07:00", "07:10"])
+        self.assertEqual(make_road(with_lead(dataclasses.replace(figures, lead=0, minutes=20, begin=None))).format_time(900), "minute 10")
+        self.assertEqual(with_lead(plain), plain)
+        self.assertEqual(road.notes, [])
+
+    def test_the_entry_is_at_the_head(self) -> None:
+        """Nobody is slowed at the head of the approach, where cars enter."""
+        road = make_road(dataclasses.replace(PLAIN, approach=1.5, entry=0.3))
+        self.assertEqual((road.zone, road.approach, road.entry, road.drivers.entry), (40, 200, 1, 40))
+        self.assertEqual([road.find_slowing(zone) for zone in (0, 1, 5, 9)], [0, *[13_107] * 3])
+        self.assertEqual(road.notes, ["nobody is slowed on the first 0.3 km of the approach (`entry`), so that the inlet admits up to 1,800 cars per hour"])
+
+    def test_the_longest(self) -> None:
+        """Zones of 0.1 km, which are 13 cells, make 62 of a road of 6 km, and leave two. Zones of 0.5 km, which are 67 cells, leave 52. Without a width
+        the 8,192 cells leave what is not the road: 7,392. Zones become wide enough for the approach, and fit the works."""
+        for zone, approach, least in ((0.1, 0.2, 0.195), (0.5, 27, 26.13), (None, 55.5, 55.44)):
+            with self.assertRaises(Fault) as found:
+                make_road(dataclasses.replace(PLAIN, length=6, zone=zone, approach=approach))
+            zones = "" if zone is None else f" with zones of {zone:g} km"
+            self.assertEqual(str(found.exception), f"approach {approach:g} km is too long: a road of 6 km{zones} leaves {least:g} km, because approach and "
+                             f"road together have at most 64 zones and 8,192 cells: use at most {least:g} km" + ("" if zone is None else ", or use wider zones"))
+            make_road(dataclasses.replace(PLAIN, length=6, zone=zone, approach=least))
+        for length, approach, works in ((6, 10, (3, 3.5)), (2, 0.1, (1, 1.2)), (20, 40, (5, 5.1)), (60, 0.9, (1, 2)), (1.6, 50, (0.3, 0.4))):
+            road = make_road(dataclasses.replace(PLAIN, length=length, approach=approach, sections=[Section(*works, 0, 10, limit=54)]))
+            self.assertTrue(road.zones <= 64 and road.length <= 8_192 and road.approach and road.approach % road.zone == 0, road)
+            self.assertLessEqual(abs(road.approach - approach * CELLS_A_KM), road.zone / 2 if approach > 0.2 else road.zone)
+            zones = {index for _, index, _, _ in road.edits}
+            places = road.to_km(min(zones) * road.zone), road.to_km((max(zones) + 1) * road.zone)
+            self.assertLess(max(abs(one - other) for one, other in zip(places, works)), road.zone / CELLS_A_KM)
+        with self.assertRaisesRegex(Fault, "leaves 0 km, .* 8,192 cells: leave it out$"):
+            make_road(dataclasses.replace(PLAIN, length=61, approach=0.4))
+        # Of the widths up to 200 cells that leave at most 64 zones, 43 fits 1,333 cells best.
+        self.assertEqual(find_narrow_zone(1_333, [dataclasses.replace(PLAIN, length=6, approach=10)]), 43)
+
+    def test_what_is_not_on_the_road(self) -> None:
+        """The road begins at km 0, and nothing of it may be on the approach. A detector may stand at km 0."""
+        road = dataclasses.replace(PLAIN, approach=1.5)
+        self.assertEqual(make_road(dataclasses.replace(road, detectors=[0])).detectors, [200])
+        for what in ({"detectors": [-0.5]}, {"ramps": [(-0.5, 100)]}, {"stalled": [Stalled(-0.5, 0, 5)]}):
+            with self.assertRaises(Fault) as found:
+                make_road(dataclasses.replace(road, **what))  # type: ignore[arg-type]
+            self.assertIn("-0.5 km is not on the road: 0 to 1.485 km", str(found.exception))
+
+
+def simulate(figures: Figures, seeds: Sequence[int], works: bool = False) -> tuple[Road, list[list[str]]]:
+    """Return the road and its rows with each seed. Cars that cannot enter are lost."""
+    road = make_road(with_lead(figures))
+    chances, found = measure_chances(road), []
+    for seed in seeds:
+        script = make_script(road, chances, seed, works)
+        with RoadLab(script.plan) as lab:
+            ask_edits(lab, script.commands)
+            lab.advance("A", road.steps)
+            found.append(lab.diagram("A", 0, road.steps))
+    return road, found
+
+
+class Traffic(unittest.TestCase):
+    def test_a_road_without_an_approach(self) -> None:
+        """Counts at km 0.3 in each five minutes of a rising demand, and vehicle hours from km 0.3 on, are those of a road without an approach, which is
+        4 km long. Cars pass a cell if they are in front of it and were behind it a step before. They need 110 s for the approach."""
+        figures = dataclasses.replace(PLAIN, minutes=25, main=[(0, 400), (10, 1_100), (20, 300)])
+        seeds, counts, hours = range(1, 9), [], []
+        for one in (figures, dataclasses.replace(figures, approach=4.0)):
+            road, days = simulate(one, seeds)
+            place = road.to_cell(0.3)
+            passed = [0] * 5
+            for rows in days:
+                for step in range(road.lead, road.steps):
+                    seen = [(ahead, int(sign)) for ahead, sign in enumerate(rows[step + 1][place:place + 9]) if sign.isdigit()]
+                    passed[(step - road.lead) // 300] += sum(speed > ahead for ahead, speed in seen)
+            counts.append(passed)
+            hours.append(sum(len(row[place:]) - row[place:].count(".") for rows in days for row in rows[road.lead + 300:]) / 3_600)
+        for before, after in zip(counts[0][1:], counts[1][1:]):
+            self.assertLess(abs(before - after), 3 * math.sqrt(before + after), counts)
+        self.assertLess(abs(hours[0] / hours[1] - 1), 0.06, hours)
+
+    def test_a_queue(self) -> None:
+        """A closure whose queue is longer than the road costs as many vehicle hours with an approach as on a road that is longer from the beginning,
+        and as a queue before the road, but many more than without any. The delay is the sum of the cars in all rows, after minus before."""
+        figures = dataclasses.replace(PLAIN, slowing=0.16, start=0.45, main=1_000, minutes=45, stalled=[Stalled(1.0, 5, 25)])
+        longer = dataclasses.replace(figures, length=7.5, stretch=(1, 2), stalled=[Stalled(7.0, 5, 25)])
+        costs: list[list[float]] = []
+        for one, waits in ((figures, False), (figures, True), (dataclasses.replace(figures, approach=6.0), True), (longer, True)):
+            road = make_road(with_lead(one))
+            chances = measure_chances(road)
+            costs.append([])
+            for seed in (1, 2, 3):
+                scripts = [make_script(road, chances, seed, works) for works in (False, True)]
+                runs = [run_day(script, scripts[0] if waits else None, Window(road.lead, road.steps), detectors=[], origin=road.approach)
+                        for script in scripts]
+                costs[-1].append((sum(runs[1].by_arrival.cars) - sum(runs[0].by_arrival.cars)) / 3_600)
+        lost, waited, approached, true = (sum(days) / 3 for days in costs)
+        self.assertLess(lost, 0.6 * true, costs)
+        self.assertLess(abs(approached / true - 1), 0.08, costs)
+        self.assertLess(abs(waited / true - 1), 0.2, costs)
+
+
+class Commands(unittest.TestCase):
+    def setUp(self) -> None:
+        folder = tempfile.TemporaryDirectory()
+        self.addCleanup(folder.cleanup)
+        self.folder = Path(folder.name)
+
+    def write_road(self, name: str, **fields: object) -> Path:
+        path = self.folder / f"{name}.json"
+        path.write_text(json.dumps({"length": 1.8, "limit": 135, "slowing": 0.2, "main": 700, "ramps": [[0.75, 100]], "sections": [], "entry": 0,
+                                    "stalled": [[1.2, "07:02", "07:06"]], "detectors": [0.3, 1.05], "stretch": [0.3, 1.2], "minutes": 10,
+                                    "begin": "07:00", **fields}), encoding="utf-8")
+        return path
+
+    def read_table(self, *names: str) -> list[list[str]]:
+        return list(csv.reader((self.folder.joinpath(*names)).read_text(encoding="utf-8").splitlines()))
+
+    def test_freeway_and_delay(self) -> None:
+        """The tables have the km and the times of the road without an approach. The main demand enters before km 0. `delay` reads the place of km 0 and
+        the step of minute 0, and shows hours before km 0 and from there on."""
+        for name, more in (("plain", {}), ("long", {"approach": 1.5}), ("late", {"approach": 1.5, "begin": None, "stalled": [[1.2, 2, 6]]})):
+            run_command(freeway.main, self.write_road(name, **more), "--out", self.folder / name)
+        for table, columns in (("counts.csv", 2), ("stretch.csv", 1)):
+            self.assertEqual(*([line[:columns] for line in self.read_table(name, table)] for name in ("plain", "long")))
+        before, after = ([line[:4] for line in self.read_table(name, "demand.csv")] for name in ("plain", "long"))
+        self.assertEqual(after, [before[0], ["-1.5", *before[1][1:]], before[2]])
+        self.assertEqual([line[1] for line in self.read_table("late", "counts.csv")][1:3], ["0", "1"])
+        self.assertEqual(self.read_table("late", "counts.csv")[5][2:], self.read_table("long", "counts.csv")[5][2:])
+        self.assertEqual(json.loads((self.folder / "long" / "units.json").read_text()), {"metres": 7.5, "seconds": 1, "origin": 200, "begin": 240})
+        scripts = [self.folder / "long" / name for name in ("without.jsonl", "script.jsonl")]
+        printed = list(csv.reader(run_command(delay.main, "--days", 2, "--out", self.folder, *scripts).splitlines()))
+        rows = {row[0]: row for row in printed if row}
+        self.assertEqual([*rows][1:4], ["vehicle hours from km 0 on", "vehicle hours before km 0", "vehicle hours on the road and before it"])
+        self.assertIn("cars at km 1.05", rows)
+        script, cells = read_script(str(scripts[0])), list[int]()
+        self.assertEqual(script.plan["zone"], 200)  # (a queue needs zones of at most 1.5 km)
+        for seed in (1, 2):
+            with RoadLab({**script.plan, "words": seed}) as lab:
+                ask_edits(lab, [line for line in script.commands if "edit" in line])
+                lab.advance("A", 840)
+                cells += [car.cell for step in range(241, 841) for car in lab.cars("A", step)]
+        hours = [float(rows[title][1]) for title in ("vehicle hours from km 0 on", "vehicle hours before km 0")]
+        self.assertEqual(hours, [round(sum(is_on_road is (cell >= 200) for cell in cells) / 2 / 3_600, 3) for is_on_road in (True, False)])
+        run_command(delay.main, "--out", self.folder, *scripts)
+        self.assertEqual([line[0] for line in self.read_table("delay.csv")][1:6], ["-4", "-3", "-2", "-1", "0"])
+        self.assertEqual([line[1] for line in self.read_table("inlets.csv")], ["at km", "-1.5", "0.75"])
+
+    def test_live(self) -> None:
+        """The plan of a road with an approach is refused before anything is measured."""
+        path = self.write_road("long", approach=1.5)
+        with contextlib.redirect_stderr(io.StringIO()) as said:
+            self.assertEqual(freeway.main(["--plan", str(path)]), 1)
+        self.assertEqual(said.getvalue(), f"{path}: approach: live takes no approach: leave it out of the file that live serves\n")
+
+    def test_report(self) -> None:
+        """The diagrams of a report begin at km 0, or with --show-approach at the head of the approach. Hours before km 0 and from there on are apart."""
+        road, out = self.write_road("long", approach=1.5), self.folder / "report.html"
+        for words, marks in (((), ["0", "0.5", "1", "1.5", "1.8"]), (("--show-approach",), ["-1", "0", "1", "1.8"])):
+            run_command(report.main, road, "--days", 1, "--out", out, *words)
+            page = out.read_text(encoding="utf-8")
+            (field, *_) = re.findall(r'<svg [^>]*class="field".*?</svg>', page)
+            self.assertEqual([mark for mark in re.findall(r'text-anchor="end">([^<]*)<', field) if ":" not in mark], marks)
+            self.assertIn("approach of 1.5 km before km 0, where cars enter", page)
+            self.assertIn("Flow, km 0.3</text>", page)
+        rows = {row[0]: row for row in self.read_table("figures-long-0700-0710.csv")[1:]}
+        self.assertLess(0, float(rows["vehicle hours before km 0"][1]))
+        self.assertAlmostEqual(float(rows["vehicle hours before km 0"][1]) + float(rows["vehicle hours from km 0 on"][1]),
+                               float(rows["vehicle hours on the road and before it"][1]))
+        self.assertEqual({row[0] for row in self.read_table("series-long-0700-0710.csv")[2:]}, {"0.3", "1.05"})
+
+    def test_metering(self) -> None:
+        """The minutes of a metered day begin at minute 0, and metering starts at its time."""
+        figures = FIGURES.override(self.write_road("long", approach=1.5, ramps=[[0.6, 300]], stalled=[]))
+        with contextlib.redirect_stderr(io.StringIO()):
+            site = make_site("long", figures, Control(ramp=0.6, detector=0.9, setpoint=8.0, begin=120))
+        self.assertEqual((site.road.lead, site.road.inlets[1][0], site.cell), (240, 280, 320))
+        plain, day = simulate_metered_day(site, 1)
+        self.assertEqual([metered.rates for metered in run_again(site, 1, 120)], [plain.rates, day.rates])
+        rows = make_minute_table(site, [plain, day])[1:]
+        self.assertEqual([row[0] for row in rows], [f"07:0{minute}" for minute in range(10)])
+        self.assertEqual([bool(row[4]) for row in rows], [minute >= 2 for minute in range(10)])
+        self.assertEqual(day.run.window, Window(240, 840))
+
+
+if __name__ == "__main__":
+    unittest.main()
