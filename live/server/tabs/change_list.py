@@ -8,12 +8,12 @@ from typing import AbstractSet, Sequence, TypedDict
 from ..journal.state import Replica, SeatReplica, State
 from ..model.demands import demand_of, is_planned, stated_demand
 from ..model.lines import operations_on
+from ..model.operation_set import NO_OPERATIONS
 from ..model.operations import Operation, Shape, Stamp, describe_act
 from ..model.road import Road
 from ..model.visibility import Rectangle, covered_rectangles, find_overruled, visible_rectangles
 
 SITE_KIND = "site"  # the kind of a line that excludes a site
-NO_OPERATIONS: frozenset[Operation] = frozenset()
 
 ListedOperation = TypedDict("ListedOperation", {
     "stamp": Stamp, "who": str, "note": str, "when": float, "does": str, "shared": bool, "undoes": "Stamp | None", "lost": "Stamp | None",
