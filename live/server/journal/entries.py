@@ -193,13 +193,13 @@ class OwnOperation(Entry):
     title: str = ""
 
     def apply(self, state: State) -> None:
-        seat, one = state.seats[self.seat], state.intern(self.operation)
+        seat, operation = state.seats[self.seat], state.intern(self.operation)
         if self.is_shared:
-            state.hold_shared([one], self.is_unsent, self.title)
-        seat.own[one], state.makers[one] = None, seat.index
-        seat.hold([one])
+            state.hold_shared([operation], self.is_unsent, self.title)
+        seat.own[operation], state.makers[operation] = None, seat.index
+        seat.hold([operation])
         if self.key is not None:
-            seat.done[self.key] = one.stamp
+            seat.done[self.key] = operation.stamp
 
 
 @dataclass(frozen=True)

@@ -168,8 +168,8 @@ class Keeper:
         self._check_disk()
         entry.apply(self.state)
         if isinstance(entry, OwnOperation):
-            one = entry.operation
-            self.undo_count += one.undoes is not None or one.withdraws
+            operation = entry.operation
+            self.undo_count += operation.undoes is not None or operation.withdraws
         upto = self.state.shared.size
 
         def confirm() -> None:
