@@ -4,6 +4,7 @@ from __future__ import annotations
 import asyncio
 import json
 import os
+import random
 import shutil
 import subprocess
 import sys
@@ -13,7 +14,7 @@ from typing import Any, Mapping, Sequence
 from crashes import numbers
 from figures_told import at_inlets, value
 from server.shell.client import Seat
-from server.figures.report import demand_text
+from server.figures.report import closures_of, demand_text
 from running import LIVE, PATIENCE, SMALL, Case, Server, end, new_folder, program, started, until
 from zegdrut.roads.clock import Clock
 from zegdrut.program.wire import PlanLine, WrittenEdit
@@ -133,6 +134,25 @@ class Freeways(Case):
         self.assertRegex(said, r"^400 from 07:00, 410 from 07:05, .*, 490 from 07:45 cars/h$")
         self.assertEqual(demand_text([(60 * place, 400 + 90 * place % 7) for place in range(50)], clock, 3_000),
                          "400 to 406 cars/h, with the peak from 07:01 on")
+
+    def test_the_closures_of_a_report_are_the_closed_cells(self) -> None:
+        """Draw random closures cell by cell and second by second, and compare them with those of the report; a cell has 7.5 m."""
+        chance, last = random.Random(1), 30
+        for _ in range(100):
+            closed = set[tuple[int, int]]()
+            for _ in range(3):
+                first, begin = chance.randrange(9), chance.randrange(40)
+                closed ^= {(cell, step) for cell in range(first, first + 4) for step in range(begin, begin + chance.choice([9, 60]))}
+            edits: dict[tuple[str, int, int], int | None] = {
+                ("block", cell, step): int((cell, step) in closed) for cell in range(13) for step in range(50)
+                if ((cell, step) in closed) != ((cell, step - 1) in closed)}
+            closures = closures_of(edits, last)
+            self.assertTrue(all(begin < last for begin, *_ in closures))
+            found = [(cell, step) for begin, end, low, high in closures
+                     for cell in range(round(low / 0.0075), round(high / 0.0075)) for step in range(begin, min(end, last))]
+            self.assertEqual(sorted(found), sorted((cell, step) for cell, step in closed if step < last))
+        one: dict[tuple[str, int, int], int | None] = {("block", cell, step): int(step < 9) for cell in (4, 5, 6) for step in (5, 9)}
+        self.assertEqual(closures_of({**one, ("limit", 4, 5): 1}, last), [(5, 9, 0.03, 0.0525)])
 
     async def test_each_curve_of_an_inlet_is_measured_once(self) -> None:
         """Ask for one curve twice, from two tabs, and once more after a restart. The folder keeps it in a line of a file, even if

@@ -27,7 +27,7 @@ class Programs(Case):
             ada, = await here.join("Ada")
             await here.put(ada, ["limit", 2, 50, 3])
             told: list[Any] = []
-            keeper.listeners.program.on(lambda: told.append((keeper.changes, keeper.why_changed)))
+            keeper.listeners.program.on(lambda: told.append((keeper.replacements, keeper.why_replaced)))
             os.kill(keeper.program._process.pid, signal.SIGSTOP)
             with mock.patch("server.roads.program.IDLE_PATIENCE", 1.0):
                 reply = await soon(keeper.ask(ada, (ada,), lambda: keeper.program.ask(b'{"scenario":{"at":"seat1"}}')))
@@ -41,7 +41,7 @@ class Programs(Case):
             os.kill(keeper.program._process.pid, signal.SIGKILL)
             await here.put(ada, ["limit", 2, 50, 3])
             self.assertEqual(len((await here.ask(ada, "scenario"))["edits"]), 1)
-            self.assertEqual((keeper.changes, keeper.why_changed), (1, "the program ended with status -9"))
+            self.assertEqual((keeper.replacements, keeper.why_replaced), (1, "the program ended with status -9"))
 
     async def test_a_busy_program_is_not_replaced(self) -> None:
         """It works for much longer than the server waits for a program that hangs."""

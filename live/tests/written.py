@@ -329,10 +329,10 @@ class Written(Case):
         passed = time.monotonic() - since
         self.assertLessEqual(self.disk.calls.count("write") - tries, max(2, passed / 3))  # writing is tried again after 1, 2 and 4 seconds
         self.assertGreater(keeper.now(), began + 200)  # it goes on
-        self.assertEqual((keeper.changes, len(told)), (1, 1))
+        self.assertEqual((keeper.replacements, len(told)), (1, 1))
         self.disk.is_full(False)
         await self.here.put(self.ben, [*LIMIT, 4])
-        self.assertEqual((keeper.changes, told[1:]), (1, [None]))
+        self.assertEqual((keeper.replacements, told[1:]), (1, [None]))
         self.assertEqual(len([one for one in self.here.entries() if "made" in one]), 2)
 
     async def test_the_clock_finds_that_the_disk_has_space_again(self) -> None:
@@ -355,7 +355,7 @@ class Written(Case):
             self.assertIn(b'["limit",2,50,', reply)
             self.assertIn(b",3]]", reply)
         self.assertIn("read-only", str(keeper.trouble).lower())
-        self.assertEqual(keeper.changes, 1)
+        self.assertEqual(keeper.replacements, 1)
         self.assertEqual(await soon(lab.seating.join("", self.here.keys[self.ada], None)), (self.ada, self.here.keys[self.ada]))
         cleo, _ = await soon(lab.seating.join("Cleo", "", None))  # who comes now looks, too
         self.assertEqual((await self.here.ask(cleo, "scenario"))["edits"], [])
@@ -487,7 +487,7 @@ class Stalled(Case):
             self.assertIsNone(self.told[1])
             held = [tuple(one["made"]["operation"]["stamp"]) for one in self.here.entries() if "made" in one]
             self.assertEqual(held[before:], stamps)
-            self.assertEqual(self.keeper.changes, 0)  # of the program
+            self.assertEqual(self.keeper.replacements, 0)  # of the program
 
     async def test_readers_of_the_shared_road_go_on_while_a_share_is_pending(self) -> None:
         bus = Bus()

@@ -97,8 +97,9 @@ def describe_off(row: FigureRow, on: FigureRow | None, steps: int) -> str:
 
 def detector_figures(said: CountReply, edits: Sequence[Edit], detector: int, window: Window) -> DetectorFigures:
     """Return what a detector counted in a window, given the program's reply. `edits` are those of detectors, which switch them."""
-    one = DetectorCount(said["cars"], said["speeds"], count_seconds_on(edits, detector, window), window.steps)
-    return {"cars": one.cars, "speeds": one.speeds, "flow": one.flow, "speed": one.time_mean_speed, "on": one.seconds_on}
+    count = DetectorCount(said["cars"], said["speeds"], count_seconds_on(edits, detector, window), window.steps)
+    return {"cars": count.cars, "speeds": count.speeds, "flow": count.flow, "speed": count.time_mean_speed,
+            "on": count.seconds_on}
 
 
 # In the child

@@ -20,13 +20,14 @@ class Checks:
     def read(self, written: Json) -> Operation:
         """Return the operation that a JSON value describes, whoever made it: so each site takes what is confirmed at another, and a
         start reads it. Raise `Malformed` if it is not one for this plan."""
-        one = read_operation(written)
-        if one.shape is not None:
-            for kind, value in values_of(one.shape.kind, one.shape.value):
-                self._check_edit(kind, one.shape.last, one.shape.begin, value)
-            if one.shape.end is not None and one.shape.end > LAST_STEP:
-                raise Malformed(f"a shape must end at step {LAST_STEP} at the latest, or have no end; not at {one.shape.end}", "Step")
-        return one
+        operation = read_operation(written)
+        if operation.shape is not None:
+            for kind, value in values_of(operation.shape.kind, operation.shape.value):
+                self._check_edit(kind, operation.shape.last, operation.shape.begin, value)
+            if operation.shape.end is not None and operation.shape.end > LAST_STEP:
+                raise Malformed(f"a shape must end at step {LAST_STEP} at the latest, or have no end; not at "
+                                f"{operation.shape.end}", "Step")
+        return operation
 
     def _check_edit(self, kind: str, index: int, step: int, value: int) -> None:
         if kind not in KINDS:

@@ -15,7 +15,7 @@ from typing import TYPE_CHECKING, Callable, ClassVar, Mapping, Sequence, TypeVar
 from zegdrut.program.grammar import PLAN, check_fields
 from zegdrut.program.wire import PlanLine
 
-from ..model.operations import Json, Operation, Stamp
+from ..model.operations import SEATS, Json, Operation, Stamp
 from ..model.reading import Malformed, list_of, read_kept_operation, read_row, read_site, read_stamp, read_time, whole
 from .journal_lines import CannotStart, JournalLine
 
@@ -23,7 +23,6 @@ if TYPE_CHECKING:
     from .state import State
 
 JOURNAL_FORM = 4
-MOST_SEATS = 64
 Fields = Mapping[str, Json]
 J = TypeVar("J", bound="JsonObject")
 
@@ -194,13 +193,13 @@ class OwnOperation(Entry):
     title: str = ""
 
     def apply(self, state: State) -> None:
-        seat, one = state.seats[self.seat], state.intern(self.operation)
+        seat, operation = state.seats[self.seat], state.intern(self.operation)
         if self.is_shared:
-            state.hold_shared([one], self.is_unsent, self.title)
-        seat.own[one], state.makers[one] = None, seat.index
-        seat.hold([one])
+            state.hold_shared([operation], self.is_unsent, self.title)
+        seat.own[operation], state.makers[operation] = None, seat.index
+        seat.hold([operation])
         if self.key is not None:
-            seat.done[self.key] = one.stamp
+            seat.done[self.key] = operation.stamp
 
 
 @dataclass(frozen=True)
@@ -314,7 +313,7 @@ ENTRY_KINDS: dict[str, type[Entry]] = {one.kind: one for one in Entry.__subclass
 PLACE, STEP, TEXT = whole_to(1 << 40, "place"), whole_to(1 << 30, "step"), read_string
 READERS: Mapping[str, Callable[[Json], object]] = {
     "form": read_form, "plan": read_plan_line, "site": read_site, "rate": read_number, "now": STEP, "stop": STEP,
-    "seat": whole_to(MOST_SEATS - 1, "seat"), "name": TEXT, "key": TEXT, "who": TEXT, "title": TEXT, "when": read_time, "upto": PLACE,
+    "seat": whole_to(SEATS - 1, "seat"), "name": TEXT, "key": TEXT, "who": TEXT, "title": TEXT, "when": read_time, "upto": PLACE,
     "size": PLACE, "operation": read_kept_operation, "operations": list_of(read_kept_operation), "stamps": list_of(read_stamp),
     "keys": list_of(read_key), "shares": list_of(News.read), "shared": lambda value: value is True, "unsent": lambda value: value is True}
 """The readers of fields, by their names in the journal."""

@@ -106,10 +106,10 @@ def sync_folder(folder: Path) -> None:
 
 def make_folder(path: Path) -> None:
     """Make a folder that only its owner may use, and the folders above it. It is there after a power failure, too."""
-    for one in reversed([one for one in (path, *path.parents) if not one.exists()]):
-        one.mkdir(exist_ok=True)
-        one.chmod(0o700)
-        sync_folder(one.parent)
+    for folder in reversed([one for one in (path, *path.parents) if not one.exists()]):
+        folder.mkdir(exist_ok=True)
+        folder.chmod(0o700)
+        sync_folder(folder.parent)
 
 
 def open_for_append(path: Path) -> int:
@@ -169,8 +169,8 @@ def fork_writer(path: Path, entries: Callable[[], Iterable[JournalLine]]) -> int
     try:
         ctypes.CDLL(None).prctl(1, signal.SIGKILL)  # PR_SET_PDEATHSIG: ends with its parent
         signal.set_wakeup_fd(-1)
-        for one in (signal.SIGINT, signal.SIGTERM):
-            signal.signal(one, signal.SIG_DFL)
+        for signal_number in (signal.SIGINT, signal.SIGTERM):
+            signal.signal(signal_number, signal.SIG_DFL)
         os.closerange(3, os.sysconf("SC_OPEN_MAX"))  # else the connections of tabs would stay open as long as this process runs
         os.nice(NICE)
         gc.disable()

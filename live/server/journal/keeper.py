@@ -28,7 +28,7 @@ from ..roads.turns import MORE, Job, More, Turns
 from ..tabs.refusals import Refused
 from .entries import JOURNAL_FORM, Clock, Entry, Folder, OwnOperation, read_plan_line, write_entry
 from .journal import Journal, NotWritten, explain_fault
-from .journal_lines import CannotStart, CorruptJournal, Entries, JournalLine, to_json
+from .journal_lines import JOURNAL, CannotStart, CorruptJournal, Entries, JournalLine, to_json
 from .naming import Counter, new_site
 from .state import NO_PLAN, State
 
@@ -72,8 +72,8 @@ class Keeper:
         self.target_steps: dict[int, int] = {}  # by replica: the step up to which it shall be simulated
         self.connected: set[int] = set()  # seats with a tab
         self.turns = Turns(self._with_program, may_be_within=lambda: self.journal.failures == self._forgotten)
-        self.changes = 0  # how often the program was replaced
-        self.why_changed: str | None = None  # why it was replaced, for people; None if that was planned
+        self.replacements = 0  # how often the program was replaced
+        self.why_replaced: str | None = None  # why it was replaced, for people; None if that was planned
         self.undo_count = 0  # operations that were undone or withdrawn since the oldest were forgotten
         self._trouble: str | None = None
         self._is_stalled = False
@@ -94,7 +94,7 @@ class Keeper:
         """Read the journal, or begin one with this plan and a new site, which has the name `site` if that is given. Start the program.
         Return whether the journal is new. Raise `CannotStart` if the journal cannot be read. If the program refuses the plan, the folder
         is left as it was."""
-        path = self.folder / "journal.jsonl"
+        path = self.folder / JOURNAL
         entries = Entries(path)
         self.state, is_new = self._read(entries)
         self.confirmed = self.state.shared.size
@@ -168,8 +168,8 @@ class Keeper:
         self._check_disk()
         entry.apply(self.state)
         if isinstance(entry, OwnOperation):
-            one = entry.operation
-            self.undo_count += one.undoes is not None or one.withdraws
+            operation = entry.operation
+            self.undo_count += operation.undoes is not None or operation.withdraws
         upto = self.state.shared.size
 
         def confirm() -> None:
@@ -320,9 +320,9 @@ class Keeper:
     async def replace(self, why: str | None = None) -> None:
         """Replace the program. The replicas of the new one get their roads when they are next asked."""
         self.cancel_successor()
-        self.why_changed = why
+        self.why_replaced = why
         old, self._screen = self._screen, await self._start()
-        self.changes += 1
+        self.replacements += 1
         if old is not None:
             old.program.kill()
         self.listeners.program.notify()
@@ -345,7 +345,7 @@ class Keeper:
             successor, self._next = self._next, None
             if successor.exception() is None:
                 asyncio.ensure_future(self.program.close())
-                self._screen, self.changes, self.why_changed = successor.result(), self.changes + 1, None
+                self._screen, self.replacements, self.why_replaced = successor.result(), self.replacements + 1, None
                 self.listeners.program.notify()
             else:
                 logging.warning("a new program, which is to replace the present one, could not be started: %s", successor.exception())

@@ -146,14 +146,14 @@ class Lab:
             raise Refused("NoSuchChange", "this change has no shape: undo it, or include the site again that it excludes")
         return line
 
-    def _why_nothing(self, seat: SeatReplica, one: Operation) -> str:
+    def _why_nothing(self, seat: SeatReplica, operation: Operation) -> str:
         """Return why the undo of an operation would change nothing."""
         operations = seat.road.operations
-        if one.site in operations.excluded:
-            return f"site {one.site} is excluded, so this change has no effect already"
-        by = [other for other in find_overruling(seat.road, one) if other is not one]
-        if not operations.counts(one):
-            by = [other for other in operations.undos_of(one) if operations.counts(other)]
+        if operation.site in operations.excluded:
+            return f"site {operation.site} is excluded, so this change has no effect already"
+        by = [other for other in find_overruling(seat.road, operation) if other is not operation]
+        if not operations.counts(operation):
+            by = [other for other in operations.undos_of(operation) if operations.counts(other)]
             return f"{' and '.join(sorted({other.about.who for other in by}))} undid this change already"
         later = sorted({other.about.who for other in by if other.undoes is None})
         return f"{' and '.join(later)} changed its line since" if later else "nothing of this change is in force any more"
@@ -167,33 +167,33 @@ class Lab:
                 return again, self._pending.get((index, key))
             await self.keeper.require_writable()
             before, version = seat.road, self._list_version(seat)
-            one = self._new_operation(seat, note, make_operation)
-            done = self._pending[index, key] = self.keeper.record(OwnOperation(index, one, key))
+            operation = self._new_operation(seat, note, make_operation)
+            done = self._pending[index, key] = self.keeper.record(OwnOperation(index, operation, key))
             done.add_done_callback(lambda _: self._pending.pop((index, key), None))
             touched = await self._first_difference(before, seat.road)
-            return {"stamp": one.stamp, "touched": touched, **self.list_of(seat, version)}, done
+            return {"stamp": operation.stamp, "touched": touched, **self.list_of(seat, version)}, done
         return await self._write(index, make_once, times, takes_long=False)
 
     def _new_operation(self, seat: SeatReplica, note: str, make_operation: MakeOperation) -> Operation:
         """Return a new operation. Raise `Refused` if not every site would take it, or if it would change nothing."""
         by = Author(seat, self.keeper.counter.next(), About(seat.name, note, int(time.time()), self.state.site))
         try:
-            one = self.read(make_operation(by).written())
+            operation = self.read(make_operation(by).written())
         except Malformed as fault:
             raise Refused(fault.refusal, str(fault)) from None
-        if one.site in seat.road.operations.excluded and one.excludes is None:
+        if operation.site in seat.road.operations.excluded and operation.excludes is None:
             raise Refused("SiteExcluded", "this site is excluded: changes made here have no effect until another site includes it again")
-        after = seat.road.adding([one])
+        after = seat.road.adding([operation])
         if after.layers == seat.road.layers and after.operations.excluded == seat.road.operations.excluded:
-            raise Refused("NoEffect", self._why_no_effect(one))
-        return one
+            raise Refused("NoEffect", self._why_no_effect(operation))
+        return operation
 
-    def _why_no_effect(self, one: Operation) -> str:
-        if one.excludes is not None:
-            return f"site {one.excludes[0]} is {'excluded' if one.excludes[1] else 'included'} already"
-        if one.withdraws:
+    def _why_no_effect(self, operation: Operation) -> str:
+        if operation.excludes is not None:
+            return f"site {operation.excludes[0]} is {'excluded' if operation.excludes[1] else 'included'} already"
+        if operation.withdraws:
             return "nothing of this change is in force any more, so there is nothing to withdraw"
-        if not one.sets:
+        if not operation.sets:
             return "this change is on top already, or nothing of it is in force any more"
         return "the road already has these values"
 

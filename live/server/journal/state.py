@@ -93,11 +93,11 @@ class Replica:
     def hold(self, operations: Iterable[Operation]) -> list[Operation]:
         """Hold operations, and return those that are new."""
         fresh = []
-        for one in operations:
-            if one not in self.places:
-                self.places[one] = intern_int(self.size)
+        for operation in operations:
+            if operation not in self.places:
+                self.places[operation] = intern_int(self.size)
                 self.size += 1
-                fresh.append(one)
+                fresh.append(operation)
         if self._road is not None:
             self._waiting += fresh
         return fresh
@@ -259,27 +259,27 @@ class State:
             why = str(fault) if isinstance(fault, ValueError) else repr(fault)
             raise CorruptJournal(f"malformed entry `{kind}`: {why}") from None
 
-    def intern(self, one: Operation) -> Operation:
+    def intern(self, operation: Operation) -> Operation:
         """Return the equal operation that is already held, or this one. Note an unreadable one; raise `Malformed` if there are too many."""
-        if isinstance(one, Unreadable):
-            self.unreadable.append(one)
+        if isinstance(operation, Unreadable):
+            self.unreadable.append(operation)
             if len(self.unreadable) > MOST_UNREADABLE:
-                raise Malformed(f"more than {MOST_UNREADABLE} operations cannot be read, of this one {one.why}")
-            return one
-        self._counter.hold(one.stamp[0])
-        return self.by_stamp.setdefault(one.stamp, one)
+                raise Malformed(f"more than {MOST_UNREADABLE} operations cannot be read, of this one {operation.why}")
+            return operation
+        self._counter.hold(operation.stamp[0])
+        return self.by_stamp.setdefault(operation.stamp, operation)
 
     def hold_shared(self, operations: Iterable[Operation], is_unsent: bool, title: str = "") -> list[Operation]:
         """Let the shared road hold operations. Return those that are new there."""
         fresh = self.shared.hold(operations)
-        for one in fresh:
+        for operation in fresh:
             if is_unsent:
-                self.unsent[one] = None
+                self.unsent[operation] = None
             if title:
-                self.titles[one] = title
-            seat = self.seats[self.makers.get(one, 0)]
-            if one in seat.own and seat.marks is not None:
-                seat.mark([line_of(seat.road, one)])  # it is not private any more
+                self.titles[operation] = title
+            seat = self.seats[self.makers.get(operation, 0)]
+            if operation in seat.own and seat.marks is not None:
+                seat.mark([line_of(seat.road, operation)])  # it is not private any more
         return fresh
 
     def take(self, seat: SeatReplica, upto: int) -> None:
@@ -288,8 +288,8 @@ class State:
 
     def free(self, index: int) -> None:
         self.lately.pop(index, None)
-        for one in self.seats[index].own:
-            del self.makers[one]
+        for operation in self.seats[index].own:
+            del self.makers[operation]
         self.seats[index] = SeatReplica(index, self)
 
     def add_news(self, news: News) -> None:
@@ -320,8 +320,8 @@ class State:
         if not gone:
             return
         lines = {line_of(seat.road, one) for one in gone}
-        for one in gone:
-            del seat.own[one], seat.places[one], self.makers[one], self.by_stamp[one.stamp]
+        for operation in gone:
+            del seat.own[operation], seat.places[operation], self.makers[operation], self.by_stamp[operation.stamp]
         seat.rebuild_without(lines)
 
     def forget_keys(self, seat: SeatReplica) -> None:
@@ -340,8 +340,8 @@ class State:
         for seat in self.seats[1:]:
             if seat.key:
                 yield SeatGrant(seat.index, seat.name, seat.key, seat.used)
-        for one in self.shared.places:
-            yield self._shared_entry(one)
+        for operation in self.shared.places:
+            yield self._shared_entry(operation)
         yield NewsList(self.shares)
         if self.works:
             yield Works(self.works)
@@ -352,7 +352,8 @@ class State:
             if seat.done:
                 yield Keys(seat.index, [*seat.done.items()])
 
-    def _shared_entry(self, one: Operation) -> Entry:
-        if one in self.makers:
-            return OwnOperation(self.makers[one], one, is_shared=True, is_unsent=one in self.unsent, title=self.titles.get(one, ""))
-        return Arrival([one], title=self.titles.get(one, ""), is_unsent=one in self.unsent)
+    def _shared_entry(self, operation: Operation) -> Entry:
+        if operation in self.makers:
+            return OwnOperation(self.makers[operation], operation, is_shared=True, is_unsent=operation in self.unsent,
+                                title=self.titles.get(operation, ""))
+        return Arrival([operation], title=self.titles.get(operation, ""), is_unsent=operation in self.unsent)

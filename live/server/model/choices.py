@@ -22,9 +22,9 @@ def own_operations(road: Road, own: Collection[Operation]) -> list[Operation]:
     return sort_by_stamp(one for one in own if one in road)
 
 
-def would_change(road: Road, one: Operation) -> bool:
+def would_change(road: Road, operation: Operation) -> bool:
     """Return whether the undo of an operation would change anything."""
-    return one not in road.operations.void and road.is_changed_by(road.operations.flipped_by_undo(one))
+    return operation not in road.operations.void and road.is_changed_by(road.operations.flipped_by_undo(operation))
 
 
 def find_undoable(road: Road, own: Collection[Operation]) -> UndoChoice:
@@ -32,34 +32,34 @@ def find_undoable(road: Road, own: Collection[Operation]) -> UndoChoice:
     done: dict[Stamp, Operation] = {}
     undone: dict[Stamp, tuple[Operation, Operation]] = {}  # by the stamp of an undo: the undo, and what it undid
     redone: dict[Stamp | None, Stamp] = {}  # by the stamp of a redo: the stamp of what it brought back
-    for one in own_operations(road, own):
-        undoes = redone.get(one.undoes, one.undoes)
+    for operation in own_operations(road, own):
+        undoes = redone.get(operation.undoes, operation.undoes)
         if undoes in done:
-            undone[one.stamp] = one, done.pop(undoes)
+            undone[operation.stamp] = operation, done.pop(undoes)
         elif undoes in undone:
             again = undone.pop(undoes)[1]
             done[again.stamp] = again
-            redone[one.stamp] = again.stamp
+            redone[operation.stamp] = again.stamp
         else:
-            done[one.stamp] = one
+            done[operation.stamp] = operation
             undone.clear()
     blocked = []
     undo = None
-    for one in reversed(done.values()):
-        if would_change(road, one):
-            undo = one
+    for operation in reversed(done.values()):
+        if would_change(road, operation):
+            undo = operation
             break
-        if any(other not in own for other in find_overruling(road, one)):
-            blocked.append(one)
+        if any(other not in own for other in find_overruling(road, operation)):
+            blocked.append(operation)
     redo = next((one for one, _ in reversed(undone.values()) if would_change(road, one)), None)
     return UndoChoice(undo, redo, blocked)
 
 
-def find_overruling(road: Road, one: Operation) -> list[Operation]:
+def find_overruling(road: Road, operation: Operation) -> list[Operation]:
     """Return the operations that overrule this one, so that its undo would change nothing; the newest first."""
     operations = road.operations
-    root = operations.root_of(one)
-    found = {other for other in operations.undos_of(one) if operations.counts(other)}
+    root = operations.root_of(operation)
+    found = {other for other in operations.undos_of(operation) if operations.counts(other)}
     if root.line is not None:
         found |= {other for other in (road.setter(root.line) if root.sets else None, road.lifter(root.line) if root.top else None)
                   if other is not None}
@@ -102,13 +102,13 @@ def find_forgettable(road: Road, shared: Road, own: Collection[Operation], kept:
     return gone
 
 
-def is_needed(road: Road, one: Operation, gone: set[Operation]) -> bool:
+def is_needed(road: Road, operation: Operation, gone: set[Operation]) -> bool:
     """Return whether an operation still has an effect if all operations in `gone` are forgotten together."""
     operations = road.operations
-    if one.site in operations.excluded or one.excludes is not None:
+    if operation.site in operations.excluded or operation.excludes is not None:
         return True
-    if one in operations.void:
-        return not gone.issuperset(operations.undos_of(one))
-    if one.undoes is not None:
-        return operations.undone_by(one) not in gone
-    return one.line in road.layers or one.line is not None and not gone.issuperset(road.changes_of(one.line))
+    if operation in operations.void:
+        return not gone.issuperset(operations.undos_of(operation))
+    if operation.undoes is not None:
+        return operations.undone_by(operation) not in gone
+    return operation.line in road.layers or operation.line is not None and not gone.issuperset(road.changes_of(operation.line))

@@ -29,10 +29,10 @@ def written_demand(demand: float | None, is_planned: bool = False) -> Mapping[st
     return {DEMAND: whole, PLANNED: True} if is_planned else {DEMAND: whole}
 
 
-def stated_demand(one: Operation) -> float | None:
+def stated_demand(operation: Operation) -> float | None:
     """Return the demand that an inflow chance stands for, according to the operation that set it, in cars per hour; None if the operation
     does not say."""
-    value, shape = one.about.more.get(DEMAND), one.shape
+    value, shape = operation.about.more.get(DEMAND), operation.shape
     if shape is None or shape.kind != INFLOW or isinstance(value, bool) or not isinstance(value, (int, float)):
         return None
     return float(value) if math.isfinite(value) and 0 <= value <= MOST_DEMAND else None

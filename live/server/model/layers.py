@@ -65,16 +65,16 @@ def split_by_topmost(layers: Iterable[Layer], begin: int, end: int) -> list[Piec
     """Return the steps from `begin` to before `end` as spans with their topmost layers. `layers` are given from the top down."""
     found: list[Piece] = []
     free = [(begin, end)]
-    for one in layers:
+    for layer in layers:
         if not free:
             break
-        if one.begin >= end or one.end <= begin:
+        if layer.begin >= end or layer.end <= begin:
             continue
         left = []
         for low, high in free:
-            since, until = max(low, one.begin), min(high, one.end)
+            since, until = max(low, layer.begin), min(high, layer.end)
             if since < until:
-                found.append((since, until, one))
+                found.append((since, until, layer))
                 left += [part for part in ((low, since), (until, high)) if part[0] < part[1]]
             else:
                 left.append((low, high))
@@ -87,9 +87,9 @@ def columns(layers: Sequence[Layer], first: int, last: int, cuts: Iterable[int])
     places of their layers in `layers`. A group also ends before each object in `cuts`."""
     comes: dict[int, list[int]] = {cut: [] for cut in (first, *cuts)}
     goes: dict[int, list[int]] = {}
-    for place, one in enumerate(layers):
-        comes.setdefault(max(first, one.first), []).append(place)
-        goes.setdefault(one.last + 1, []).append(place)
+    for place, layer in enumerate(layers):
+        comes.setdefault(max(first, layer.first), []).append(place)
+        goes.setdefault(layer.last + 1, []).append(place)
     lows = sorted(low for low in comes.keys() | goes.keys() if low <= last)
     here: list[int] = []
     for low, high in zip(lows, [low - 1 for low in lows[1:]] + [last]):

@@ -13,10 +13,10 @@ from .projection import MOST_STRETCHES, changed_layers, changed_stretches, merge
 from .road import Road
 
 
-def line_of(road: Road, one: Operation) -> Stamp:
+def line_of(road: Road, operation: Operation) -> Stamp:
     """Return the line that an operation belongs to. An undo belongs to the line of the operation that it undoes; one whose target is
     missing is a line of its own."""
-    root = road.operations.root_of(one)
+    root = road.operations.root_of(operation)
     if root.excludes is not None:
         return line_of_site(road, root.excludes[0]) or root.stamp
     return root.line or root.stamp
@@ -39,8 +39,8 @@ def operations_on(road: Road, line: Stamp) -> list[Operation]:
     if named is not None:
         roots.update(operations.exclusions if named.excludes is not None else [named])
     found = [one for one in roots if line_of(road, one) == line]
-    for one in found:
-        found += operations.undos_of(one)
+    for operation in found:
+        found += operations.undos_of(operation)
     return sort_by_stamp(found)
 
 
@@ -52,9 +52,9 @@ def find_altered_lines(before: Road, after: Road) -> set[Stamp]:
     if step is None or step.before() is not before or before.operations.excluded != after.operations.excluded:
         return all_lines(before) | all_lines(after)
     lines = {line_of(after, one) for one in step.fresh | step.flipped}
-    for one in step.fresh:  # an undo that waited for it had a line of its own, and an older exclusion may have named the line
-        lines |= {each.stamp for each in after.operations.undos_of(one)}
-        named = None if one.excludes is None else line_of_site(before, one.excludes[0])
+    for operation in step.fresh:  # an undo that waited for it had a line of its own; an older exclusion may have named the line
+        lines |= {each.stamp for each in after.operations.undos_of(operation)}
+        named = None if operation.excludes is None else line_of_site(before, operation.excludes[0])
         lines |= set() if named is None else {named}
     names = changed_layers(before, after)
     return lines | names | find_lines_beneath(before, after, names)

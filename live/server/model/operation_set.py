@@ -35,35 +35,35 @@ class OperationSet:
         other.exclusions, other._undos, other._of_exclusions = self.exclusions, dict(self._undos), self._of_exclusions
         return other
 
-    def __contains__(self, one: Operation) -> bool:
-        return one.stamp in self.held
+    def __contains__(self, operation: Operation) -> bool:
+        return operation.stamp in self.held
 
     def __iter__(self) -> Iterator[Operation]:
         return iter(self.held.values())
 
-    def undos_of(self, one: Operation) -> tuple[Operation, ...]:
+    def undos_of(self, operation: Operation) -> tuple[Operation, ...]:
         """Return the operations that undo this one, whether they count or not."""
-        return self._undos.get(one.stamp, ())
+        return self._undos.get(operation.stamp, ())
 
-    def undone_by(self, one: Operation) -> Operation | None:
+    def undone_by(self, operation: Operation) -> Operation | None:
         """Return the operation that this one undoes; None if it undoes none that is held."""
-        return None if one.undoes is None else self.held.get(one.undoes)
+        return None if operation.undoes is None else self.held.get(operation.undoes)
 
-    def undo_chain(self, one: Operation) -> list[Operation]:
+    def undo_chain(self, operation: Operation) -> list[Operation]:
         """Return an operation, the operation that it undoes, the one that this undoes, and so on. An undo whose target is missing is the
         last one."""
-        found = [one]
+        found = [operation]
         while (undone := self.undone_by(found[-1])) is not None:
             found.append(undone)
         return found
 
-    def root_of(self, one: Operation) -> Operation:
+    def root_of(self, operation: Operation) -> Operation:
         """Follow undos down to the operation that was undone first."""
-        return self.undo_chain(one)[-1]
+        return self.undo_chain(operation)[-1]
 
-    def counts(self, one: Operation, flipped: AbstractSet[Operation] = NO_OPERATIONS) -> bool:
+    def counts(self, operation: Operation, flipped: AbstractSet[Operation] = NO_OPERATIONS) -> bool:
         """Return whether an operation counts."""
-        return (one in self.void) == (one in flipped)
+        return (operation in self.void) == (operation in flipped)
 
     def add(self, operations: Iterable[Operation]) -> tuple[set[Operation], set[Operation]]:
         """Add operations. Return those that are new, and those that now count but did not before, or the reverse."""
@@ -79,18 +79,18 @@ class OperationSet:
             flipped ^= self._settle(sort_by_stamp(one for one in self if one.site in changed))
         return fresh, flipped
 
-    def _hold(self, one: Operation) -> bool:
+    def _hold(self, operation: Operation) -> bool:
         """Hold an operation, for now as one that does not count. Return whether it is new."""
-        if one in self:
+        if operation in self:
             return False
-        self.held[one.stamp] = one
-        self.void.add(one)
-        if one.undoes is not None:
-            self._undos[one.undoes] = *self._undos.get(one.undoes, ()), one
-        if one.excludes is not None:
-            self.exclusions = insert_in_order(self.exclusions, one)
-        if one.excludes is not None or one.undoes in self._of_exclusions:
-            chain = [one]
+        self.held[operation.stamp] = operation
+        self.void.add(operation)
+        if operation.undoes is not None:
+            self._undos[operation.undoes] = *self._undos.get(operation.undoes, ()), operation
+        if operation.excludes is not None:
+            self.exclusions = insert_in_order(self.exclusions, operation)
+        if operation.excludes is not None or operation.undoes in self._of_exclusions:
+            chain = [operation]
             for each in chain:
                 chain += self.undos_of(each)
             self._of_exclusions |= {each.stamp for each in chain}
@@ -101,40 +101,40 @@ class OperationSet:
         the operations whose decision has changed."""
         flipped: set[Operation] = set()
         while waiting:
-            one = waiting.pop()
-            if self._is_void(one, NO_OPERATIONS) != (one in self.void):
-                self.void ^= {one}
-                flipped ^= {one}
-                undone = self.undone_by(one)
+            operation = waiting.pop()
+            if self._is_void(operation, NO_OPERATIONS) != (operation in self.void):
+                self.void ^= {operation}
+                flipped ^= {operation}
+                undone = self.undone_by(operation)
                 waiting += [] if undone is None else [undone]
         return flipped
 
-    def _is_void(self, one: Operation, flipped: AbstractSet[Operation]) -> bool:
-        if one.stamp in self._of_exclusions:
-            return any(other.site == one.site and self.counts(other, flipped) for other in self.undos_of(one))
-        return one.site in self.excluded or any(self.counts(other, flipped) for other in self.undos_of(one))
+    def _is_void(self, operation: Operation, flipped: AbstractSet[Operation]) -> bool:
+        if operation.stamp in self._of_exclusions:
+            return any(other.site == operation.site and self.counts(other, flipped) for other in self.undos_of(operation))
+        return operation.site in self.excluded or any(self.counts(other, flipped) for other in self.undos_of(operation))
 
     def excluded_if(self, flipped: AbstractSet[Operation] = NO_OPERATIONS) -> frozenset[str]:
         """Return the excluded sites. Of a site the newest exclusion holds; one is ignored if its own site is excluded by a newer one."""
         says: dict[str, bool] = {}
-        for one in reversed(self.exclusions):
-            if one.excludes is not None and self.counts(one, flipped) and not says.get(one.site):
-                says.setdefault(*one.excludes)
+        for exclusion in reversed(self.exclusions):
+            if exclusion.excludes is not None and self.counts(exclusion, flipped) and not says.get(exclusion.site):
+                says.setdefault(*exclusion.excludes)
         return frozenset(site for site, is_out in says.items() if is_out)
 
-    def flipped_by_undo(self, one: Operation) -> set[Operation]:
+    def flipped_by_undo(self, operation: Operation) -> set[Operation]:
         """Return the operations whose decision would change if an operation that counts were undone."""
-        if one in self.void:
+        if operation in self.void:
             return set()
-        flipped = {one}
-        for other in self.undo_chain(one)[1:]:
+        flipped = {operation}
+        for other in self.undo_chain(operation)[1:]:
             if self._is_void(other, flipped) != self.counts(other, flipped):
                 break
             flipped.add(other)
         return flipped
 
 
-def insert_in_order(some: tuple[Operation, ...], one: Operation) -> tuple[Operation, ...]:
+def insert_in_order(some: tuple[Operation, ...], operation: Operation) -> tuple[Operation, ...]:
     """Return sorted operations with one more in its place."""
-    place = bisect(some, one)
-    return *some[:place], one, *some[place:]
+    place = bisect(some, operation)
+    return *some[:place], operation, *some[place:]

@@ -133,25 +133,25 @@ class Unreadable(Operation):
         return dict(self.value)
 
 
-def name_of(one: Operation) -> Stamp:
+def name_of(operation: Operation) -> Stamp:
     """Return the stamp of an operation: its count, and the hash of its text. Raise UnicodeEncodeError if the text has a lone surrogate."""
-    digest = hashlib.sha256(one.text().encode()).digest()[:HASH]
-    return one.stamp[0], base64.urlsafe_b64encode(digest).decode().rstrip("=")
+    digest = hashlib.sha256(operation.text().encode()).digest()[:HASH]
+    return operation.stamp[0], base64.urlsafe_b64encode(digest).decode().rstrip("=")
 
 
-def named(one: Operation) -> Operation:
+def named(operation: Operation) -> Operation:
     """Return an operation whose stamp has its count alone under the name that its text gives it."""
-    stamp = name_of(one)
-    return replace(one, stamp=stamp, line=stamp if one.puts else one.line)
+    stamp = name_of(operation)
+    return replace(operation, stamp=stamp, line=stamp if operation.puts else operation.line)
 
 
-def describe_act(one: Operation, undone: Operation | None) -> str:
+def describe_act(operation: Operation, undone: Operation | None) -> str:
     """Return what an operation does, in a word of live/PROTOCOL.md. `undone` is what it undoes, if that is known."""
-    if one.undoes is not None:
+    if operation.undoes is not None:
         return "redo" if undone is not None and undone.undoes is not None else "undo"
-    if one.excludes is not None:
-        return "exclude" if one.excludes[1] else "include"
-    return "put" if one.puts else "top" if one.top else "withdraw" if one.shape is None else "change"
+    if operation.excludes is not None:
+        return "exclude" if operation.excludes[1] else "include"
+    return "put" if operation.puts else "top" if operation.top else "withdraw" if operation.shape is None else "change"
 
 
 def sort_by_stamp(operations: Iterable[Operation]) -> list[Operation]:

@@ -45,8 +45,8 @@ def difference_like(known: tuple[Road, Road, Edits], before: Road, after: Road) 
     if len(own) >= MOST_STRETCHES:
         return difference(before, after)
     by_kind: dict[str, list[Stretch]] = {}
-    for one in own:
-        by_kind.setdefault(one[0], []).append(one)
+    for stretch in own:
+        by_kind.setdefault(stretch[0], []).append(stretch)
     edits = {(kind, index, step): value for (kind, index, step), value in known[2].items() if not any(
         first <= index <= last and begin <= step <= end for _, first, last, begin, end in by_kind.get(kind, ()))}
     return {**edits, **difference(before, after, own)}
@@ -81,8 +81,8 @@ def merge_stretches(some: set[Stretch]) -> set[Stretch]:
     if len(some) < MOST_STRETCHES:
         return some
     kinds: dict[str, list[Stretch]] = {}
-    for one in some:
-        kinds.setdefault(one[0], []).append(one)
+    for stretch in some:
+        kinds.setdefault(stretch[0], []).append(stretch)
     return {(kind, min(one[1] for one in ones), max(one[2] for one in ones), 0, END) for kind, ones in kinds.items()}
 
 

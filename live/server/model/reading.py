@@ -47,32 +47,32 @@ def read_operation(value: Json) -> Operation:
     about = About(read_text(value, "who", LONGEST_NAME), read_text(value, "note", LONGEST_NOTE), read_time(value.get("when")),
                   read_site(value.get("site")), read_more(value))
     try:
-        one = Operation(stamp, stamp if layer is None and shape is not None else layer, shape, top, read_optional(
+        operation = Operation(stamp, stamp if layer is None and shape is not None else layer, shape, top, read_optional(
             value, "undoes", read_stamp), read_optional(value, "excludes", read_exclusion), read_optional(value, "seen", read_stamp), about)
-        name = name_of(one)
+        name = name_of(operation)
     except UnicodeEncodeError:
         raise Malformed("the operation has a lone surrogate") from None
     except ValueError as fault:
         raise Malformed(str(fault)) from None
-    wrong = why_no_operation(one) or (None if name == stamp else f"the hash of its text is {name[1]}, not {stamp[1]}")
+    wrong = why_no_operation(operation) or (None if name == stamp else f"the hash of its text is {name[1]}, not {stamp[1]}")
     if wrong is not None:
         raise Malformed(wrong)
-    return one
+    return operation
 
 
-def why_no_operation(one: Operation) -> str | None:
+def why_no_operation(operation: Operation) -> str | None:
     """Return a sentence that says why an operation does nothing, or too much; None if it does one thing. An undo and an exclusion are
     listed only in the line of what they undo and of the site; and an exclusion counts although its site is excluded."""
-    stamp = list(one.stamp)
-    does = [one.line is not None, one.undoes is not None, one.excludes is not None]
+    stamp = list(operation.stamp)
+    does = [operation.line is not None, operation.undoes is not None, operation.excludes is not None]
     if not any(does):
         return f"the operation {stamp} does nothing"
-    if sum(does) > 1 or one.line is None and (one.top or one.seen is not None):
+    if sum(does) > 1 or operation.line is None and (operation.top or operation.seen is not None):
         return f"the operation {stamp} undoes another one or excludes a site, so it must do nothing else: make two operations of it"
-    if one.puts and one.top:
+    if operation.puts and operation.top:
         return f"the operation {stamp} puts a new layer, which is on top already: leave `top` out"
-    if one.excludes is not None and one.excludes[0] == one.site:
-        return f"site {one.site} cannot exclude or include itself: another site must do it"
+    if operation.excludes is not None and operation.excludes[0] == operation.site:
+        return f"site {operation.site} cannot exclude or include itself: another site must do it"
     return None
 
 
@@ -95,8 +95,8 @@ def require_whole(value: Json) -> None:
     """Raise `Malformed` if a number in a JSON value is not whole, or too large for all readers of JSON."""
     if isinstance(value, float) or type(value) is int and abs(value) > GREATEST_COUNT:
         raise Malformed(f"{value} is not a whole number of at most {GREATEST_COUNT} in size, as all numbers of an operation must be")
-    for one in value.values() if isinstance(value, dict) else value if isinstance(value, list) else ():
-        require_whole(one)
+    for item in value.values() if isinstance(value, dict) else value if isinstance(value, list) else ():
+        require_whole(item)
 
 
 def read_kept_operation(value: Json) -> Operation:

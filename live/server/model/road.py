@@ -37,8 +37,8 @@ class Road:
         self.step: RoadChange | None = None  # how this road was made
         self._changes: dict[Stamp, tuple[Operation, ...]] = {}  # by line, the oldest first; lines that were only put are missing
 
-    def __contains__(self, one: Operation) -> bool:
-        return one in self.operations
+    def __contains__(self, operation: Operation) -> bool:
+        return operation in self.operations
 
     def changes_of(self, line: Stamp) -> tuple[Operation, ...]:
         """Return the operations that put or change a line, or put it on top, the oldest first, whether they count or not."""
@@ -64,11 +64,11 @@ class Road:
             return self
         road = self.copy()
         fresh, flipped = road.operations.add(some)
-        for one in fresh:
-            if one.line is not None:
-                others = road.changes_of(one.line)
-                if not (one.puts and one in others):
-                    road._changes[one.line] = insert_in_order(others, one)
+        for operation in fresh:
+            if operation.line is not None:
+                others = road.changes_of(operation.line)
+                if not (operation.puts and operation in others):
+                    road._changes[operation.line] = insert_in_order(others, operation)
         names = {one.line for one in flipped if one.line is not None}
         for name in names:
             road._lay(name)

@@ -66,14 +66,14 @@ def find_overruled(road: Road, line: Stamp) -> dict[Operation, Operation]:
         at = by_stamp.get(gap) if gap is not None else None
     found = {one: min(other for other in known if one < other) for one in setters
              if counts(one) and one not in known and (gap is None or one.stamp > gap)}
-    for one in known:
-        below = by_stamp.get(one.seen) if one.seen is not None else None
-        found.update((each, one) for each in (road.operations.undos_of(below) if below else ()) if counts(each))
+    for operation in known:
+        below = by_stamp.get(operation.seen) if operation.seen is not None else None
+        found.update((each, operation) for each in (road.operations.undos_of(below) if below else ()) if counts(each))
     return {last_redo(road, one): won for one, won in found.items()}
 
 
-def last_redo(road: Road, one: Operation) -> Operation:
+def last_redo(road: Road, operation: Operation) -> Operation:
     """Return the last redo that restored an operation, or the operation itself if nobody restored it."""
     operations = road.operations
-    redos = [redo for undo in operations.undos_of(one) for redo in operations.undos_of(undo) if operations.counts(redo)]
-    return last_redo(road, max(redos)) if redos else one
+    redos = [redo for undo in operations.undos_of(operation) for redo in operations.undos_of(undo) if operations.counts(redo)]
+    return last_redo(road, max(redos)) if redos else operation

@@ -132,8 +132,8 @@ class Previews:
         """End the programs of previews that were not used for longest and answer no query, if too many have one."""
         running = [one for one in self._of.values() if one.program is not None]
         idle = sorted((one for one in running if not one.answering.locked()), key=lambda one: one.used)
-        for one in idle[:max(0, len(running) - MOST_PREVIEWS)]:
-            one.close()
+        for preview in idle[:max(0, len(running) - MOST_PREVIEWS)]:
+            preview.close()
 
     def get(self, index: int) -> Preview:
         """Return the preview of a seat. Raise `Refused` if it has none. Drop other seats' previews that were not used for long."""

@@ -116,11 +116,11 @@ def demand_shapes(chances: Sequence[int], shapes: Sequence[Shape],
     for inlet, (chance, rates) in enumerate(zip(chances, demands)):
         yield Shape(INFLOW, inlet, inlet, 0, None, chance), find_rate(rates, 0)
         own = [one for one in shapes if one.kind == INFLOW and one.first == inlet]
-        for one in [*(Shape(INFLOW, inlet, inlet, 0, one.begin, chance) for one in own[:1]), *own]:
-            dates = [one.begin, *(step for step, _ in rates if one.begin < step < (one.end or END))]
-            for begin, end in zip(dates, [*dates[1:], one.end]):
+        for shape in [*(Shape(INFLOW, inlet, inlet, 0, one.begin, chance) for one in own[:1]), *own]:
+            dates = [shape.begin, *(step for step, _ in rates if shape.begin < step < (shape.end or END))]
+            for begin, end in zip(dates, [*dates[1:], shape.end]):
                 if begin:
-                    yield one._replace(begin=begin, end=end), find_rate(rates, begin)
+                    yield shape._replace(begin=begin, end=end), find_rate(rates, begin)
 
 
 def convert_freeway(path: Path, program: str) -> ConvertedFreeway:
@@ -149,9 +149,9 @@ def is_another(path: Path, plan: PlanLine, kept: Path) -> bool:
     value = read_plan(path)
     if is_freeway(value):
         return not kept.exists() or read_plan(kept) != value
-    one: dict[str, object] = {**value, "replicas": 0}
+    file_plan: dict[str, object] = {**value, "replicas": 0}
     other: dict[str, object] = {**plan, "replicas": 0}
-    return one != other
+    return file_plan != other
 
 
 async def share_works(lab: Lab, road: NewRoad) -> None:

@@ -102,20 +102,21 @@ def write_rows(database: sqlite3.Connection, table: str, rows: Iterator[Row] | S
 
 
 def operation_row(held: HeldOperation, by_stamp: Mapping[Stamp, Operation]) -> Row:
-    one, about = held.operation, held.operation.about
-    undone = None if one.undoes is None else by_stamp.get(one.undoes)
-    return (stamp_text(one.stamp), one.stamp[0], one.site, held.seat, about.who, about.note, utc_text(about.when), describe_act(one, undone),
-            None if one.undoes is None else stamp_text(one.undoes), int(held.is_shared), to_json(one.written()))
+    operation, about = held.operation, held.operation.about
+    undone = None if operation.undoes is None else by_stamp.get(operation.undoes)
+    return (stamp_text(operation.stamp), operation.stamp[0], operation.site, held.seat, about.who, about.note,
+            utc_text(about.when), describe_act(operation, undone),
+            None if operation.undoes is None else stamp_text(operation.undoes), int(held.is_shared), to_json(operation.written()))
 
 
-def shape_row(one: Operation, tables: Tables) -> Row:
+def shape_row(operation: Operation, tables: Tables) -> Row:
     """Return the row of the layer that an operation sets."""
-    names = stamp_text(one.stamp), stamp_text(one.line or one.stamp)
-    if one.shape is None:
+    names = stamp_text(operation.stamp), stamp_text(operation.line or operation.stamp)
+    if operation.shape is None:
         return *names, *[None] * 6, "withdrawn", *[None] * 4
-    kind, first, last, begin, end, value = one.shape
+    kind, first, last, begin, end, value = operation.shape
     return (*names, kind, first, last, begin, end, value[0] if isinstance(value, tuple) else value,
-            describe_value(one.shape, one.about.more.get("demand")), *find_places(tables.plan, kind, first, last),
+            describe_value(operation.shape, operation.about.more.get("demand")), *find_places(tables.plan, kind, first, last),
             tables.clock.to_date_text(begin), None if end is None else tables.clock.to_date_text(end))
 
 

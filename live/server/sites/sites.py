@@ -217,9 +217,9 @@ class Sites:
             return
         now = time.monotonic()
         due = [one for one in sort_by_stamp(self._unreturned()) if sum(self._sent.get(one, (0.0, 0.0))) <= now][:OPERATIONS_AT_ONCE]
-        for one in due:
-            _, pause = self._sent.get(one, (0.0, ANNOUNCE_EVERY / 2))
-            self._sent[one] = now, min(LONGEST_RESEND_PAUSE, 2 * pause)
+        for operation in due:
+            _, pause = self._sent.get(operation, (0.0, ANNOUNCE_EVERY / 2))
+            self._sent[operation] = now, min(LONGEST_RESEND_PAUSE, 2 * pause)
         self._send(due)
 
     def _unreturned(self) -> list[Operation]:
@@ -323,9 +323,9 @@ class Sites:
     async def _read_operations(self, written: Sequence[Json]) -> list[Operation]:
         """Return the operations of a message that every site takes, and report the others in one sentence."""
         good, faults, began = list[Operation](), list[str](), thread_time()
-        for one in written:
+        for value in written:
             try:
-                good.append(self._lab.read(one))
+                good.append(self._lab.read(value))
             except Malformed as fault:
                 faults.append(str(fault))
             if thread_time() > began + READ_FOR:
@@ -342,10 +342,10 @@ class Sites:
         """Return operations, given in the order of their stamps, without those whose counts are too far above the shared road. Their
         sites send them again."""
         near, greatest = list[Operation](), self._keeper.state.shared.greatest
-        for one in some:
-            if not is_far(one.stamp[0], greatest):
-                near.append(one)
-                greatest = max(greatest, one.stamp[0])
+        for operation in some:
+            if not is_far(operation.stamp[0], greatest):
+                near.append(operation)
+                greatest = max(greatest, operation.stamp[0])
         if len(near) < len(some):
             self._say(f"{len(some) - len(near)} changes were left out, since their counts are far above all that are shared here: they are "
                       "taken once those before them have come")

@@ -35,9 +35,9 @@ class Sums:
             hashes = (after - before for before, after in itertools.pairwise(self._upto))
             fresh = sorted([*zip(self._stamps, hashes), *fresh])
             self._stamps, self._upto = [], [0]
-        for stamp, one in fresh:
+        for stamp, bits in fresh:
             self._stamps.append(stamp)
-            self._upto.append(self._upto[-1] + one)
+            self._upto.append(self._upto[-1] + bits)
 
     def hash_between(self, begin: Bound, end: Bound) -> str:
         """Return the hash of the operations from a stamp to before another one."""

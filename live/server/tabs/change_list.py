@@ -8,12 +8,12 @@ from typing import AbstractSet, Sequence, TypedDict
 from ..journal.state import Replica, SeatReplica, State
 from ..model.demands import demand_of, is_planned, stated_demand
 from ..model.lines import operations_on
+from ..model.operation_set import NO_OPERATIONS
 from ..model.operations import Operation, Shape, Stamp, describe_act
 from ..model.road import Road
 from ..model.visibility import Rectangle, covered_rectangles, find_overruled, visible_rectangles
 
 SITE_KIND = "site"  # the kind of a line that excludes a site
-NO_OPERATIONS: frozenset[Operation] = frozenset()
 
 ListedOperation = TypedDict("ListedOperation", {
     "stamp": Stamp, "who": str, "note": str, "when": float, "does": str, "shared": bool, "undoes": "Stamp | None", "lost": "Stamp | None",
@@ -84,21 +84,21 @@ class Lister:
         setter = self._road.setter(line)
         return None if setter is None else setter.shape
 
-    def operation(self, one: Operation, won: Operation | None = None) -> ListedOperation:
+    def operation(self, operation: Operation, won: Operation | None = None) -> ListedOperation:
         """Return what an operation did, and who made it. `won` is the operation that won over it."""
-        about, does = one.about, describe_act(one, self._road.operations.undone_by(one))
+        about, does = operation.about, describe_act(operation, self._road.operations.undone_by(operation))
         said: ListedOperation = {
-            "stamp": one.stamp, "who": about.who, "note": about.note, "when": about.when, "does": does, "shared": one in self._places,
-            "undoes": one.undoes, "lost": None if won is None else won.stamp}
-        if one in self._makers:
-            said["seat"] = self._makers[one]
-        if one in self._idle:
+            "stamp": operation.stamp, "who": about.who, "note": about.note, "when": about.when, "does": does,
+            "shared": operation in self._places, "undoes": operation.undoes, "lost": None if won is None else won.stamp}
+        if operation in self._makers:
+            said["seat"] = self._makers[operation]
+        if operation in self._idle:
             said["idle"] = True
-        if not self._road.operations.counts(one):
+        if not self._road.operations.counts(operation):
             said["void"] = True
         if won is not None:
-            said["shape"] = one.shape
-            said["demand"] = stated_demand(one)
+            said["shape"] = operation.shape
+            said["demand"] = stated_demand(operation)
         return said
 
     def lines_since(self, marks: dict[Stamp, int], version: int, seconds: float) -> tuple[list[Line], int | None]:

@@ -68,9 +68,9 @@ class Doors:
 
     def open(self) -> None:
         """Accept connections from now on."""
-        for one in self._sockets:
-            one.setblocking(False)
-            asyncio.get_running_loop().add_reader(one, self._accept, one)
+        for door in self._sockets:
+            door.setblocking(False)
+            asyncio.get_running_loop().add_reader(door, self._accept, door)
 
     def _accept(self, door: socket.socket) -> None:
         loop = asyncio.get_running_loop()
@@ -111,8 +111,8 @@ class Doors:
         if len(queue) > MOST_QUEUED:
             queue.popleft().close()
         if len(self._waiting) > MOST_QUEUES:  # drop the queue whose turn is last
-            for one in self._waiting.popitem()[1]:
-                one.close()
+            for other in self._waiting.popitem()[1]:
+                other.close()
         self._come.set()
 
     async def serve(self) -> None:
@@ -144,9 +144,9 @@ class Doors:
 
     def close(self) -> None:
         """Close the listening sockets and all connections that have not entered."""
-        for one in self._sockets:
-            asyncio.get_running_loop().remove_reader(one)
-            one.close()
+        for door in self._sockets:
+            asyncio.get_running_loop().remove_reader(door)
+            door.close()
         for task in [*self._silent, *self._entering]:
             task.cancel()
         for queue in self._waiting.values():
@@ -225,10 +225,11 @@ class Strangers:
         self._since = {one: self._since.get(one, now) for one in there}
         addresses = {one: address_of(transport) for one, transport in there.items()}
         counts = collections.Counter(addresses.values())
-        for one, address in sorted(addresses.items(), key=lambda pair: self._since[pair[0]]):
-            if counts[address] > MOST_UNKNOWN_OF_ADDRESS or counts.total() > MOST_UNKNOWN or now - self._since[one] > SHORT:
+        for connection, address in sorted(addresses.items(), key=lambda pair: self._since[pair[0]]):
+            is_late = now - self._since[connection] > SHORT
+            if counts[address] > MOST_UNKNOWN_OF_ADDRESS or counts.total() > MOST_UNKNOWN or is_late:
                 counts[address] -= 1
-                there[one].abort()
+                there[connection].abort()
 
 
 def address_of(transport: asyncio.Transport) -> str:

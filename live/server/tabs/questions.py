@@ -233,8 +233,8 @@ class Questions:
         async def body() -> Reply:
             state, texts, size = self._keeper.state, list[str](), 0
             after, more, began = replica.size, False, time.perf_counter()
-            for one, place in [*replica.places.items()]:
-                if place < first or isinstance(one, Unreadable):
+            for operation, place in [*replica.places.items()]:
+                if place < first or isinstance(operation, Unreadable):
                     continue
                 if time.perf_counter() > began + LINES_FOR:
                     await asyncio.sleep(0)
@@ -242,7 +242,8 @@ class Questions:
                 if size > PIECE_OF_LIST:
                     after, more = place, True
                     break
-                written: dict[str, object] = {**one.written(), "shared": one in state.shared.places, "seat": state.makers.get(one)}
+                written: dict[str, object] = {**operation.written(), "shared": operation in state.shared.places,
+                                              "seat": state.makers.get(operation)}
                 texts.append(to_json(written))
                 size += len(texts[-1])
             return f'{{"operations":[{",".join(texts)}],"next":{after},"more":{to_json(more)}}}'.encode()

@@ -77,8 +77,8 @@ class Seating:
             if self._listed and self._keeper.journal.has_waited(A_MOMENT):
                 asked.cancel()
                 kept = [one.copy() for one in self._listed]
-                for one in kept:
-                    one["here"] = one["seat"] in self._keeper.connected
+                for seat in kept:
+                    seat["here"] = seat["seat"] in self._keeper.connected
                 return kept
         self._listed = asked.result()
         return self._listed

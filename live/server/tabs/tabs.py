@@ -243,7 +243,7 @@ class Tabs:
         listeners.clock.on(self._clock)
         listeners.days.on(self._days)
         listeners.trouble.on(self._tell_trouble)
-        listeners.program.on(lambda: self._tell_all("program", {"changes": keeper.changes, "why": keeper.why_changed}))
+        listeners.program.on(lambda: self._tell_all("program", {"changes": keeper.replacements, "why": keeper.why_replaced}))
         self._ended: str | None = None  # a sentence about a task of the server that has ended a moment ago
         listeners.ended.on(self._show_fault)
         self._ticks = supervise("the news of the clock", self._tick, listeners.ended.notify)

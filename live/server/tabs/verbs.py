@@ -149,8 +149,8 @@ def admission(asked: CommandFields) -> Handler:
 
     async def reply(call: Call) -> Reply:
         inlets = len(call.lab.state.plan["inlets"])
-        for one, chance in [(inlet, 0), *upstream]:
-            if one >= inlets or chance > 65_536:
+        for index, chance in [(inlet, 0), *upstream]:
+            if index >= inlets or chance > 65_536:
                 raise Refused("Range", f"an inlet must be 0 to {inlets - 1}, and its chance 0 to 65536")
         cell, *cells = (call.lab.state.plan["inlets"][one][0] for one in (inlet, *(one for one, _ in upstream)))
         if len({*cells}) < len(cells) or max(cells, default=-1) >= cell:
