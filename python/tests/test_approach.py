@@ -13,14 +13,19 @@ import unittest
 from pathlib import Path
 from typing import Callable, Sequence
 
-from zegdrut import Fault, RoadLab
+from zegdrut import Fault, Plan, RoadLab
 from zegdrut.commands import delay, freeway, report
 from zegdrut.commands.freeway import FIGURES
+from zegdrut.commands.measured import draw_space_time, find_places
 from zegdrut.commands.metering import Control, make_minute_table, make_site, run_again, run_day as simulate_metered_day
 from zegdrut.figures.queues import run_day
-from zegdrut.figures.trips import Window
+from zegdrut.figures.trips import Trips, Window
+from zegdrut.measurements.comparison import make_model, simulate_day
+from zegdrut.measurements.congestion import list_segments
+from zegdrut.measurements.measured import Measured, Series
+from zegdrut.measurements.stations import Station
 from zegdrut.program.scripts import read_script
-from zegdrut.roads.freeway import Figures, Road, Section, Stalled, make_road, measure_chances, with_lead
+from zegdrut.roads.freeway import Figures, Road, Section, Stalled, make_road, measure_chances, warm_up_minutes, with_lead
 from zegdrut.roads.road_scripts import make_script
 from zegdrut.roads.waiting import ask_edits, find_narrow_zone
 
@@ -56,6 +61,8 @@ class Cells(unittest.TestCase):
         self.assertEqual([road.format_time(step) for step in (0, 300, 900)], ["06:55", "07:00", "07:10"])
         self.assertEqual(make_road(with_lead(dataclasses.replace(figures, lead=0, minutes=20, begin=None))).format_time(900), "minute 10")
         self.assertEqual(with_lead(plain), plain)
+        # At 135 km/h a car needs 7.1 minutes for an approach of 10 km and a road of 6 km. A report begins twice as early.
+        self.assertEqual(warm_up_minutes(dataclasses.replace(PLAIN, length=6, approach=10)), 15)
         self.assertEqual(road.notes, [])
 
     def test_the_entry_is_at_the_head(self) -> None:
@@ -149,6 +156,36 @@ class Traffic(unittest.TestCase):
         self.assertLess(lost, 0.6 * true, costs)
         self.assertLess(abs(approached / true - 1), 0.08, costs)
         self.assertLess(abs(waited / true - 1), 0.2, costs)
+
+
+class Measurements(unittest.TestCase):
+    def test_stations(self) -> None:
+        """Stations keep their km on a road with an approach, and their counts are those of its cells. The run begins 5 minutes before the window:
+        3 km at 135 km/h take 80 s, twice. The segments of the stations and the diagrams begin at km 0."""
+        figures = dataclasses.replace(PLAIN, approach=1.5, slowing=0.0, begin="07:00", minutes=10)
+        series = [Series(Station(name, km, 1), [50.0, 40.0], [90.0, 90.0]) for name, km in (("a", 0.0), ("b", 0.9), ("c", 1.2))]
+        model = make_model("small", figures, Measured(figures.clock, 300, series, []))
+        self.assertEqual((model.road.detectors[:2], model.warm, find_places(model)), ([320, 360], 300, {"b": "0.9", "c": "1.2"}))
+        counts, rows, entered = simulate_day(model, 1, with_rows=True, with_entries=True)
+        for place, cell in enumerate((320, 360)):
+            passed = [sum(sign.isdigit() and ahead < int(sign) for ahead, sign in enumerate(row[cell:cell + 9])) for row in rows]
+            self.assertEqual(counts[place][0].cars, sum(passed[1:301]))
+            self.assertGreater(min(one.cars for one in counts[place]), 20)
+        self.assertGreater(entered, 100)
+        self.assertEqual([(one.first, one.last) for one in list_segments(model)], [(200, 260), (260, 340), (340, 360)])
+        self.assertNotIn('text-anchor="end">-', draw_space_time(model))
+
+    def test_a_run_that_is_read_again(self) -> None:
+        """The cars on the approach are counted again after an edit of the past."""
+        plan = Plan(length=120, inlets=[(0, 20_000)], zones=[(5, 9_000)], words=4)
+        with RoadLab(plan) as lab:
+            lab.advance("A", 1_200)
+            trips = Trips(lab.plan, [], origin=60)
+            trips.follow(lab, "A", 1_200)
+            lab.edit("A", ("block", 50), step=700, value=1)
+            trips.rewind(700)
+            trips.follow(lab, "A", 1_200)
+            self.assertEqual(trips.on_approach, [sum(car.cell < 60 for car in lab.cars("A", step)) for step in range(1_201)])
 
 
 class Commands(unittest.TestCase):

@@ -9,7 +9,8 @@
 A window is the steps `first` to `last` - 1. Step s leads from row s to row s + 1, so the rows of a window are `first` + 1 to
 `last`. No figure of a window contains anything outside it. A step is a second.
 
-- *Vehicle hours*: the cars on the road in each row of the window, one second each.
+- *Vehicle hours*: the cars on the road in each row of the window, one second each. On a road with an approach, those before km 0 and
+  those from km 0 on are summed apart.
 - *Admitted*: the cars that enter in the steps of the window.
 - *Travel time*: the seconds from a car's step of entry to the step in which it leaves the road (or passes a site). The mean of a
   window is over the cars that leave (or pass) in it. By minute of entry, the mean is over the cars that entered in that
