@@ -8,10 +8,12 @@ from __future__ import annotations
 import asyncio
 import json
 import ssl
+import urllib.parse
 from types import TracebackType
 from typing import TYPE_CHECKING
 
 import aiohttp
+from yarl import URL
 
 if TYPE_CHECKING:
     from ..tabs.frames import Frame, Welcome
@@ -62,8 +64,9 @@ class Seat:
     async def __aenter__(self) -> Seat:
         self._session = aiohttp.ClientSession()
         try:
+            url = URL(f"{self._base}/live?{urllib.parse.quote(self._token, safe='%')}", encoded=True)
             self._socket = await self._session.ws_connect(
-                f"{self._base}/live?{self._token}", headers={"Origin": self._base}, max_msg_size=LONGEST_ANSWER, ssl=self._ssl)
+                url, headers={"Origin": self._base}, max_msg_size=LONGEST_ANSWER, ssl=self._ssl)
             self._reader = asyncio.create_task(self._read())
             self.welcome = (await self.say("hello", **self._hello))["welcome"]
         except BaseException:
