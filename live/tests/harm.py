@@ -339,7 +339,7 @@ class Bounds(Case):
 
 
 class Refusals(unittest.TestCase):
-    """The table of refusals is the same in PROTOCOL.md, the server and FORMAT.md."""
+    """The names of refusals are the same in PROTOCOL.md, the server and FORMAT.md."""
 
     def rows(self, page: str) -> dict[str, str]:
         text = (LIVE.parent / page).read_text().partition("## Refusals\n")[2].partition("\n## ")[0]

@@ -11,7 +11,7 @@ from oracle import all_edits
 from painted import EMPTY, made_by
 from working import takes_at_most
 from server.model import choices, lines, visibility
-from server.model.operations import About, Json, Operation, Shape, exclude, lift, named, put, undo
+from server.model.operations import About, Json, Operation, Shape, describe_act, exclude, lift, named, put, undo
 from server.model.projection import difference
 from server.model.reading import GREATEST_COUNT, Malformed, read_operation
 from server.model.road import Road, change, repeat
@@ -113,6 +113,8 @@ class Cases(unittest.TestCase):
         redone = undo(4, taken, ADA)
         again = undo(5, redone, ADA)
         road = BASE.adding([other, taken, redone, again])
+        self.assertEqual([describe_act(one, road.operations.held) for one in (other, taken, redone, again)], ["put", "undo", "redo", "undo"])
+        self.assertEqual([describe_act(one, {}) for one in (taken, redone)], ["undo", "undo"])  # what they undo is not known
         found = choices.find_undoable(road, made_by(road, ADA))
         self.assertEqual((found.undo, found.redo), (CLOSURE, again))
         road = road.adding([undo(6, again, ADA)])

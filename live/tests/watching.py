@@ -123,6 +123,21 @@ class Failing(Case):
 class Pieces(Case):
     """Long work is done in pieces, and questions of others are answered in between."""
 
+    async def test_a_gesture_adds_its_operation_to_the_road_of_its_seat_once(self) -> None:
+        here = await self.enterAsyncContext(Here())
+        ada, = await here.join("Ada")
+        await here.put(ada, ["limit", 1, 0, 3])
+        seat, added, adding = here.lab.state.seats[ada], list[Any](), Road.adding
+
+        def counted(road: Road, operations: Any) -> Road:
+            some = [*operations]
+            added.extend(one for one in some if road is seat.road and one not in road)
+            return adding(road, some)
+        with mock.patch.object(Road, "adding", counted):
+            stamp = await here.put(ada, ["limit", 1, 9, 2])
+        self.assertEqual([one.stamp for one in added], [stamp])
+        self.assertEqual([*seat.road.operations.held][1:], [stamp])
+
     async def test_operations_arrive_and_are_taken_in_pieces(self) -> None:
         """Many operations of another site arrive, and then a seat takes them."""
         here = await self.enterAsyncContext(Here())

@@ -167,15 +167,17 @@ class Lab:
                 return again, self._pending.get((index, key))
             await self.keeper.require_writable()
             before, version = seat.road, self._list_version(seat)
-            operation = self._new_operation(seat, note, make_operation)
+            operation, after = self._new_operation(seat, note, make_operation)
             done = self._pending[index, key] = self.keeper.record(OwnOperation(index, operation, key))
             done.add_done_callback(lambda _: self._pending.pop((index, key), None))
-            touched = await self._first_difference(before, seat.road)
+            seat.adopt(after)
+            touched = await self._first_difference(before, after)
             return {"stamp": operation.stamp, "touched": touched, **self.list_of(seat, version)}, done
         return await self._write(index, make_once, times, takes_long=False)
 
-    def _new_operation(self, seat: SeatReplica, note: str, make_operation: MakeOperation) -> Operation:
-        """Return a new operation. Raise `Refused` if not every site would take it, or if it would change nothing."""
+    def _new_operation(self, seat: SeatReplica, note: str, make_operation: MakeOperation) -> tuple[Operation, Road]:
+        """Return a new operation, and the seat's road with it. Raise `Refused` if not every site would take it, or if it would change
+        nothing."""
         by = Author(seat, self.keeper.counter.next(), About(seat.name, note, int(time.time()), self.state.site))
         try:
             operation = self.read(make_operation(by).written())
@@ -186,7 +188,7 @@ class Lab:
         after = seat.road.adding([operation])
         if after.layers == seat.road.layers and after.operations.excluded == seat.road.operations.excluded:
             raise Refused("NoEffect", self._why_no_effect(operation))
-        return operation
+        return operation, after
 
     def _why_no_effect(self, operation: Operation) -> str:
         if operation.excludes is not None:

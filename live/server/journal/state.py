@@ -80,6 +80,11 @@ class Replica:
             self.become(self._road.adding(part))
             await asyncio.sleep(0)
 
+    def adopt(self, road: Road) -> None:
+        """Replace the road by one that has the waiting operations."""
+        self._waiting = []
+        self.become(road)
+
     def build(self) -> Road:
         """Build its road from all the operations that it holds."""
         raise NotImplementedError

@@ -12,7 +12,7 @@ from __future__ import annotations
 from bisect import bisect
 from typing import AbstractSet, Iterable, Iterator
 
-from .operations import Operation, Stamp, sort_by_stamp
+from .operations import Operation, Stamp, sort_by_stamp, undo_chain
 
 NO_OPERATIONS: frozenset[Operation] = frozenset()
 
@@ -52,10 +52,7 @@ class OperationSet:
     def undo_chain(self, operation: Operation) -> list[Operation]:
         """Return an operation, the operation that it undoes, the one that this undoes, and so on. An undo whose target is missing is the
         last one."""
-        found = [operation]
-        while (undone := self.undone_by(found[-1])) is not None:
-            found.append(undone)
-        return found
+        return undo_chain(operation, self.held)
 
     def root_of(self, operation: Operation) -> Operation:
         """Follow undos down to the operation that was undone first."""

@@ -145,10 +145,19 @@ def named(operation: Operation) -> Operation:
     return replace(operation, stamp=stamp, line=stamp if operation.puts else operation.line)
 
 
-def describe_act(operation: Operation, undone: Operation | None) -> str:
-    """Return what an operation does, in a word of live/PROTOCOL.md. `undone` is what it undoes, if that is known."""
-    if operation.undoes is not None:
-        return "redo" if undone is not None and undone.undoes is not None else "undo"
+def undo_chain(operation: Operation, held: Mapping[Stamp, Operation]) -> list[Operation]:
+    """Return an operation, the operation that it undoes, the one that this undoes, and so on, as far as they are held."""
+    found = [operation]
+    while (undoes := found[-1].undoes) is not None and undoes in held:
+        found.append(held[undoes])
+    return found
+
+
+def describe_act(operation: Operation, held: Mapping[Stamp, Operation]) -> str:
+    """Return what an operation does, in a word of live/PROTOCOL.md. `held` has the operations that it may undo."""
+    undos = sum(each.undoes is not None for each in undo_chain(operation, held))
+    if undos:
+        return "undo" if undos % 2 else "redo"
     if operation.excludes is not None:
         return "exclude" if operation.excludes[1] else "include"
     return "put" if operation.puts else "top" if operation.top else "withdraw" if operation.shape is None else "change"

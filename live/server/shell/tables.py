@@ -103,9 +103,8 @@ def write_rows(database: sqlite3.Connection, table: str, rows: Iterator[Row] | S
 
 def operation_row(held: HeldOperation, by_stamp: Mapping[Stamp, Operation]) -> Row:
     operation, about = held.operation, held.operation.about
-    undone = None if operation.undoes is None else by_stamp.get(operation.undoes)
     return (stamp_text(operation.stamp), operation.stamp[0], operation.site, held.seat, about.who, about.note,
-            utc_text(about.when), describe_act(operation, undone),
+            utc_text(about.when), describe_act(operation, by_stamp),
             None if operation.undoes is None else stamp_text(operation.undoes), int(held.is_shared), to_json(operation.written()))
 
 

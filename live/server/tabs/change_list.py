@@ -86,7 +86,7 @@ class Lister:
 
     def operation(self, operation: Operation, won: Operation | None = None) -> ListedOperation:
         """Return what an operation did, and who made it. `won` is the operation that won over it."""
-        about, does = operation.about, describe_act(operation, self._road.operations.undone_by(operation))
+        about, does = operation.about, describe_act(operation, self._road.operations.held)
         said: ListedOperation = {
             "stamp": operation.stamp, "who": about.who, "note": about.note, "when": about.when, "does": does,
             "shared": operation in self._places, "undoes": operation.undoes, "lost": None if won is None else won.stamp}
