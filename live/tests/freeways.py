@@ -229,7 +229,7 @@ class Freeways(Case):
     async def test_a_freeway_that_was_only_partly_set_up_is_set_up_again(self) -> None:
         """Here the server was killed before the works were shared."""
         folder, keys = new_folder(), dict[Path, dict[str, str]]()
-        (folder / "token").write_text("a token of 24 characters")
+        (folder / "token").write_text("a-token-of-24-characters")
         (folder / "stalled").write_text("journal.jsonl")
         (folder / "road.json").write_text(json.dumps(KM), encoding="utf-8")
         process = started([sys.executable, str(LIVE / "tests" / "stalling.py"), "--folder", str(folder), "--port", "0",
