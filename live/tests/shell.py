@@ -61,7 +61,7 @@ class Written(unittest.TestCase):
         self.assertEqual(written.demand, 1_200.5)
 
     def test_a_wrong_change_is_refused_with_a_reason(self) -> None:
-        for words, why in ((("jump", "1"), "'jump' is not a kind of change: write one of close, limit"), (("limit", "54", "0"), "write limit KMH"),
+        for words, why in ((("jump", "1"), "'jump' is not a kind of change: write one of close, capacity, limit"), (("limit", "54", "0"), "write limit KMH"),
                            (("limit", "300", "0", "0.1", "1"), "0 to 243 km/h, not 300"), (("close", "2", "3", "1"), "0 to 0.9 km"),
                            (("close", "0.2", "0.1", "1"), "the smaller first"), (("slowing", "101", "0", "0.1", "1"), "0 to 100 %"),
                            (("detector", "1", "0", "1"), "on or off"), (("close", "a", "0.1", "1"), "'a' is not a number of km"),
