@@ -17,11 +17,13 @@ import {LAST_STEP, chanceText, kmText, limitText} from "./units.mjs";
 export const countCurves = () =>
   [[...store.curves.values()].filter((one) => "points" in one).length, store.curves.size];
 
-/** Ask whether a shape waits until the server has measured what its inlet admits.
+/** Ask whether a shape waits until the server has measured what its inlet admits, or which chances
+ * leave its capacity.
  * @param {Shape} shape
  */
-export const isUnmeasured = ({kind, first, from, value}) =>
-  kind === "inflow" && Number.isNaN(value) && layersOf("mine").curveAt(first, from) === null;
+export const isUnmeasured = ({kind, first, from, value, chances}) =>
+  (kind === "capacity" ? !Number.isNaN(value) && !chances
+    : kind === "inflow" && Number.isNaN(value) && layersOf("mine").curveAt(first, from) === null);
 
 /** Say in a sentence why a value is invalid.
  * @param {Kind} kind
@@ -29,6 +31,7 @@ export const isUnmeasured = ({kind, first, from, value}) =>
  * @param {number} from      the step
  */
 export function faultOfValue(kind, first, from) {
+  if (kind === "capacity") return messages.CAPACITY_OUT_OF_RANGE;
   if (kind !== "inflow") return messages.CHANCE_OUT_OF_RANGE;
   const [plan, mine] = [need("plan"), layersOf("mine")];
   const curve = mine.curveAt(first, from);
@@ -45,15 +48,16 @@ export function faultOfValue(kind, first, from) {
  * @returns {Area}
  */
 export function areaOfShape(shape, old = null, coversNoZone = false) {
-  const {kind, first, last, from, to, value, demand} = shape;
+  const {kind, first, last, from, to, value} = shape;
   const [plan, mine] = [need("plan"), layersOf("mine")];
   const waits = isUnmeasured(shape);
   const isValid = waits || !Number.isNaN(value);
   const note = isValid ? shapeText(mine, shape) : "";
-  const what = isValid ? valueText(mine, kind, value, first, from, demand) : "";
+  const what = isValid ? valueText(mine, shape) : "";
   const lines = [what, placesText(plan, kind, first, last),
                  takenZonesText(plan, kind, first, last), mine.day.spanText(from, to),
-                 waits ? messages.measuringInlet(...countCurves()) : ""].filter(Boolean);
+                 !waits ? "" : kind === "capacity" ? messages.MEASURED_WHEN_PUT
+                   : messages.measuringInlet(...countCurves())].filter(Boolean);
   const fault = coversNoZone ? messages.TOO_FEW_ZONES : faultOf(shape);
   return {shape, note, lines, fault, old};
 }

@@ -28,7 +28,7 @@ function changeButtons({change, text}) {
   /** @type {[offered: boolean, name: string, does: () => void][]} */
   const buttons = [
     [true, "Show", () => showChange(change)],
-    [change.standing && change.shape !== null && change.kind !== "capacity", "Change", () => editInForm(change)],
+    [change.standing && change.shape !== null, "Change", () => editInForm(change)],
     [change.standing, "Withdraw", () => withdraw(change)],
     [isCovered(change), "Put on top", () => putOnTop(change)],
     [privateOf(change).length > 0, "Share…", () => openPreview("share", [change])]];
@@ -67,8 +67,9 @@ const pendingItem = ([key, {note}]) => ({key, version: note, make: () => element
     element("span", "pending", {className: "state pending"})))});
 
 /** @type {(waiting: [key: string, area: import("./types.mjs").Area]) => Item} */
-const waitingItem = ([key, {note}]) => {
-  const why = messages.waitsForInlet(...countCurves());
+const waitingItem = ([key, {note, shape}]) => {
+  const why = shape.kind === "capacity" ? messages.WAITS_FOR_CAPACITY
+    : messages.waitsForInlet(...countCurves());
   return {key, version: note + why, make: () => element("li", "", {},
     element("p", note + " ", {className: "note"},
       element("span", "waiting", {className: "state pending"})),

@@ -116,24 +116,29 @@ export class Words {
     if (change.shown.every(({by}) => by !== null)) {
       return `Wholly covered by ${over.join(" and ")}.`;
     }
-    const parts = [...change.shown].sort((one, other) =>
+    const isCapacity = change.shape?.kind === "capacity";
+    const parts = [...(isCapacity ? change.covered : change.shown)].sort((one, other) =>
       one.from - other.from || one.first - other.first);
-    const places = new Set(parts.map(({first, last}) => `${first} ${last}`)).size > 1;
+    const places = isCapacity || new Set(parts.map(({first, last}) => `${first} ${last}`)).size > 1;
     const texts = parts.slice(0, MOST_PARTS).map((part) => this.part(part, places));
     const rest = parts.length - texts.length;
-    const text = `${texts.join("; ")}${rest > 0 ? `; and ${rest} more` : ""}.`;
+    const text = `${isCapacity ? "the capacity no longer holds: " : ""}${texts.join("; ")}${rest > 0 ? `; and ${rest} more` : ""}.`;
     return text[0].toUpperCase() + text.slice(1);
   }
 
-  /** Return where a change is in force, or where another change covers it, as text: all parts.
+  /** Return where a change is in force, or where another change covers it, as text: all parts. Of a
+   * capacity that is covered in part, the limit and the chances may be in force at different places.
    * @param {Change} change
    * @param {boolean} inForce
    */
-  parts({shown, standing}, inForce) {
+  parts({shape, shown, covered, standing}, inForce) {
     if (!standing) return "";
-    return shown.filter(({by}) => (by === null) === inForce).map((part) => {
+    const isCapacity = shape?.kind === "capacity";
+    const parts = !isCapacity ? shown : inForce && !covered.length ? [{...shape, by: null}] : inForce ? shown : covered;
+    return parts.filter(({by}) => (by === null) === inForce).map((part) => {
       const {kind, first, last, from, to} = part;
-      const where = `${placesText(this.layers.plan, kind, first, last)}, ${this.layers.day.spanText(from, to)}`;
+      const what = isCapacity && kind !== "capacity" ? `${THINGS[kind]} ` : "";
+      const where = `${what}${placesText(this.layers.plan, kind, first, last)}, ${this.layers.day.spanText(from, to)}`;
       return inForce ? where : `${where} by ${this.coverer(part)}`;
     }).join("; ");
   }

@@ -78,9 +78,9 @@ export function decodeShape(wire) {
   const [kind, first, last, from, to, value] = listOf(wire);
   if (!isKind(kind) || !isCount(first) || !isCount(last) || !isCount(from)) return null;
   if (to !== null && !isCount(to)) return null;
-  const [cars, ...rest] = kind === "capacity" ? listOf(value) : [value];
-  if (!isWhole(cars) || !rest.every(isWhole)) return null;
-  return {kind, first, last, from, to, value: cars, ...(kind === "capacity" ? {measured: rest} : {})};
+  const [cars, limit, ...chances] = kind === "capacity" ? listOf(value) : [value, 0];
+  if (!isWhole(cars) || !isWhole(limit) || !chances.every(isWhole)) return null;
+  return {kind, first, last, from, to, value: cars, ...(kind === "capacity" ? {limit, chances} : {})};
 }
 
 /** Return an inflow with the demand that it is for, if that is known; another shape as it is.
@@ -96,8 +96,8 @@ const withDemand = (shape, demand) =>
  * @param {Shape} shape
  * @returns {WireShape}
  */
-export const encodeShape = ({kind, first, last, from, to, value, measured}) =>
-  [kind, first, last, from, to, measured ? [value, ...measured] : value];
+export const encodeShape = ({kind, first, last, from, to, value, limit, chances}) =>
+  [kind, first, last, from, to, limit !== undefined && chances ? [value, limit, ...chances] : value];
 
 /** Return the parts of a change of [kind, first, last, from, until, value, by].
  * @param {unknown} wire
@@ -124,10 +124,10 @@ const decodeOperation = ({stamp, undoes, lost, shape, demand, ...wire}) =>
 export function decodeChange(wire) {
   const name = decodeStamp(wire.name);
   if ("gone" in wire) return {name, gone: true};
-  const {shape, shown, operations, was, demand, site = null, ...rest} = wire;
+  const {shape, shown, covered, operations, was, demand, site = null, ...rest} = wire;
   const decode = (/** @type {unknown} */ parts) =>
     decodeParts(parts).map((part) => withDemand(part, demand));
-  return {...rest, name, site, shape: withDemand(decodeShape(shape), demand), shown: decode(shown),
+  return {...rest, name, site, shape: withDemand(decodeShape(shape), demand), shown: decode(shown), covered: decode(covered),
           operations: operations.map(decodeOperation), ...(was === undefined ? {} : {was: was && decode(was)})};
 }
 
@@ -199,7 +199,8 @@ const DECODERS = {
   take: (wire) => ({...decodeList(wire), touched: wire.touched}), layers: decodeList,
   preview: ({layers = []}) => ({layers: layers.map(decodeChange)}), figures: decodeFigures,
   days: decodeDays, send: asSent, advance: asSent, diagram: asSent, counts: asSent, sums: asSent,
-  admission: asSent, script: asSent, report: asSent, transcript: asSent, csv: asSent, clock: asSent,
+  admission: asSent, capacity: asSent, script: asSent, report: asSent, transcript: asSent, csv: asSent,
+  clock: asSent,
 };
 
 /** Return the answer to a command, with named fields.

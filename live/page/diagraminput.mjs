@@ -7,7 +7,7 @@ import {areaOfShape} from "./area.mjs";
 import {applyArea, beginCorner, beginDrag, chooseTool, dropArea, endDrag, hasMoved, moveCursor,
         noteClick, readPlace, showArea, showDrawn, useLetters} from "./draft.mjs";
 import {$, closest, on} from "./elements.mjs";
-import {demandOfTool, valueOfTool} from "./formvalues.mjs";
+import {moreOfTool, valueOfTool} from "./formvalues.mjs";
 import {OF_ONE, edgeNear, nearestIn, rectangleBetween, sameShape, shapeWithEdge, snap}
   from "./geometry.mjs";
 import {isInForce} from "./layers.mjs";
@@ -46,7 +46,7 @@ const snapHere = (place, exact) =>
 function areaBetween(kind, one, other, how) {
   const {first, last, from, to, coversNoZone} = rectangleBetween(need("plan"), kind, one, other, how);
   const value = valueOfTool(kind, first, from);
-  return areaOfShape({kind, first, last, from, to, value, ...demandOfTool(kind)}, null, coversNoZone);
+  return areaOfShape({kind, first, last, from, to, value, ...moreOfTool(kind)}, null, coversNoZone);
 }
 
 /** Return the place of a pointer.
@@ -245,7 +245,7 @@ function characterText(character) {
 /** @type {Record<string, [across: number, down: number]>} */
 const ARROWS = {ArrowLeft: [-1, 0], ArrowRight: [1, 0], ArrowUp: [0, -1], ArrowDown: [0, 1]};
 /** @type {Record<string, Store["tool"]>} */
-const LETTERS = {v: "look", c: "block", l: "limit", i: "inflow", p: "slow", s: "start", t: "watch"};
+const LETTERS = {v: "look", c: "block", a: "capacity", l: "limit", i: "inflow", p: "slow", s: "start", t: "watch"};
 
 /** Show how far an arrow key moves the cursor at this zoom. */
 function showStride() {

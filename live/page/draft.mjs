@@ -3,13 +3,13 @@
 import {put, refreshLists} from "./gestures.mjs";
 import {areaOfShape, isUnmeasured} from "./area.mjs";
 import {assign} from "./assign.mjs";
-import {curveSoon} from "./demand.mjs";
+import {measureShape} from "./measurements.mjs";
 import {fieldsOf, readForm, takenText} from "./formvalues.mjs";
 import {clamp, sameShape} from "./geometry.mjs";
 import {moveBy} from "./navigation.mjs";
 import * as messages from "./messages.mjs";
 import {layersOf, need, notify, store, tell} from "./store.mjs";
-import {LAST_STEP, chanceOfDemand} from "./units.mjs";
+import {LAST_STEP} from "./units.mjs";
 import {strideNow} from "./view.mjs";
 
 /** @typedef {import("./store.mjs").Drag} Drag */
@@ -91,8 +91,8 @@ export function applyForm() {
 const isAsItWas = ({shape, old}) => old && store.pending.size === 0
   && sameShape(old.shape, shape);
 
-/** Put an area, or say why not. Return whether it had no fault. A demand waits until its inlet is
- * measured.
+/** Put an area, or say why not. Return whether it had no fault. A demand or a capacity waits until it
+ * is measured.
  * @param {Area} area
  */
 export function applyArea(area) {
@@ -106,8 +106,8 @@ export function applyArea(area) {
   return true;
 }
 
-/** Put a demand as soon as its inlet is measured, and show in the list that it waits. The same demand
- * twice is one.
+/** Put a demand or a capacity as soon as it is measured, and show in the list that it waits. The same
+ * one twice is one.
  * @param {Area} area
  */
 async function putOnceMeasured(area) {
@@ -115,15 +115,13 @@ async function putOnceMeasured(area) {
   const key = JSON.stringify([shape, old?.name]);
   store.waiting.set(key, area);
   refreshLists();
-  const curve = await curveSoon(layersOf("mine"), shape.first, shape.from);
+  const measured = await measureShape(shape, note);
   if (!dropWaiting(key)) return;
-  if (curve) {
-    const value = chanceOfDemand(shape.demand ?? NaN, curve);
-    applyArea({...areaOfShape({...shape, value}, old), taken});
-  } else tell(messages.notMeasured(note), true);
+  if (typeof measured === "string") tell(measured, true);
+  else applyArea({...areaOfShape(measured, old), taken});
 }
 
-/** Drop a demand that waits. Return whether it was still waiting.
+/** Drop a change that waits. Return whether it was still waiting.
  * @param {string} key
  */
 export function dropWaiting(key) {

@@ -12,7 +12,7 @@ import {assign} from "./assign.mjs";
  *   & Record<"hour" | "ahead" | "back" | "savePicture" | "saveTranscript" | "saveScript"
  *            | "saveFigures" | "saveTravel" | "saveReport" | "saveCounts" | "saveChanges" | "undo" | "redo" | "apply"
  *            | "changeSeat" | "dropChange" | "closer" | "farther" | "wholeRoad" | "shareAll", HTMLButtonElement>
- *   & Record<"follow" | "name" | "demand" | "slow" | "start" | "kmFrom" | "kmTo" | "timeFrom"
+ *   & Record<"follow" | "name" | "demand" | "slow" | "start" | "capacity" | "kmFrom" | "kmTo" | "timeFrom"
  *            | "timeTo" | "letters", HTMLInputElement>
  *   & Record<"save" | "asTable" | "sites" | "past" | "series" | "fileDemand", HTMLDetailsElement>
  *   & Record<"hello", HTMLDialogElement>
@@ -22,7 +22,7 @@ import {assign} from "./assign.mjs";
  *            | "previewFigures", HTMLDivElement>
  *   & Record<"seatList" | "stays" | "legend" | "warnings" | "previewList" | "seriesLegend", HTMLUListElement>
  *   & Record<"tools" | "whose", HTMLFieldSetElement>
- *   & Record<"limit" | "inlet" | "site" | "watch" | "span" | "paint" | "seriesSite" | "seriesEnd",
+ *   & Record<"limit" | "worksLimit" | "inlet" | "site" | "watch" | "span" | "paint" | "seriesSite" | "seriesEnd",
             HTMLSelectElement>
  *   & Record<"kmFromLabel" | "kmToLabel", HTMLLabelElement>
  *   & Record<"diagram" | "flowChart" | "speedChart" | "travelChart", HTMLCanvasElement>

@@ -14,10 +14,10 @@ import {kmText, limitText} from "./units.mjs";
 
 const FASTEST = 9;              // the highest limit, in cells a step
 /** @type {Field[]} */
-const FIELDS = ["limit", "watch", "demand", "inlet", "site", "slow", "start", "kmFrom", "kmTo",
-                "timeFrom", "timeTo"];
+const FIELDS = ["limit", "watch", "demand", "inlet", "site", "slow", "start", "capacity", "worksLimit",
+                "kmFrom", "kmTo", "timeFrom", "timeTo"];
 /** @type {Store["tool"][]} */
-const TOOLS = ["look", "block", "limit", "inflow", "slow", "start", "watch"];
+const TOOLS = ["look", "block", "capacity", "limit", "inflow", "slow", "start", "watch"];
 /** @type {Record<Store["tool"], string>} */
 const VERBS = {look: "Close cells", block: "Close", limit: "Limit", inflow: "Set demand",
                slow: "Set slowing", start: "Set slow to start", watch: "Switch detector",
@@ -31,6 +31,7 @@ function showPlan() {
   const plan = need("plan");
   const limits = Array.from({length: FASTEST + 1}, (_, limit) => limit);
   $("limit").append(...limits.map((limit) => new Option(limitText(limit), String(limit))));
+  $("worksLimit").append(...limits.slice(1).map((limit) => new Option(limitText(limit), String(limit))));
   /** @type {(what: string, cell: number, index: number) => HTMLOptionElement} */
   const option = (what, cell, index) =>
     new Option(`the ${what} at ${kmText(cell)} km`, String(index));

@@ -30,17 +30,20 @@ export function valueOfTool(kind, first, from) {
     const curve = layersOf("mine").curveAt(first, from);
     return curve ? chanceOfDemand(numberOf(form.demand), curve) : NaN;
   }
-  if (kind === "capacity") return NaN;
+  if (kind === "capacity") return numberOf(form.capacity) > 0 ? Math.round(numberOf(form.capacity)) : NaN;
   const percent = numberOf(form[kind]);
   return percent >= 0 && percent <= 100 ? Math.round(percent / 100 * ALWAYS) : NaN;
 }
 
-/** Return the typed demand as a field of a shape; no field if the kind is not `inflow`.
+/** Return what is typed for a shape besides its value: the demand of an inlet, the limit of works with a
+ * capacity.
  * @param {Kind} kind
- * @returns {{demand?: number}}
+ * @returns {{demand?: number, limit?: number}}
  */
-export const demandOfTool = (kind) =>
-  (kind === "inflow" ? {demand: numberOf(store.form.demand)} : {});
+export function moreOfTool(kind) {
+  if (kind === "capacity") return {limit: numberOf(store.form.worksLimit)};
+  return kind === "inflow" ? {demand: numberOf(store.form.demand)} : {};
+}
 
 /** Return the chosen inlet and the typed beginning, a step; NaN if it is not a time. */
 export const demandInForm = () =>
@@ -78,7 +81,7 @@ export function readForm() {
   const range = readRange(kind);
   if (typeof range === "string") return range;
   const [first, last] = range;
-  return {kind, first, last, from, to, value: valueOfTool(kind, first, from), ...demandOfTool(kind)};
+  return {kind, first, last, from, to, value: valueOfTool(kind, first, from), ...moreOfTool(kind)};
 }
 
 /** Return the first and the last object that are typed, or a sentence that says what is wrong.
@@ -119,21 +122,19 @@ export function takenText({kind, first, last}) {
  * @param {Shape} shape
  * @returns {Partial<FormValues>}
  */
-export function fieldsOf({kind, first, last, from, to, value, demand}) {
+export function fieldsOf(shape) {
+  const {kind, first, last, from, to} = shape;
   const [start, end] = cellsOf(need("plan"), kind, first, last);
   return {kmFrom: kmText(start), kmTo: kmText(end), timeFrom: store.day.timeText(from),
-          timeTo: to === null ? "" : store.day.timeText(to), ...valuesOf(kind, first, from, value, demand)};
+          timeTo: to === null ? "" : store.day.timeText(to), ...valuesOf(shape)};
 }
 
-/** Return the texts of the form's fields for a value.
- * @param {Kind} kind
- * @param {number} first
- * @param {number} from
- * @param {number} value
- * @param {number} [demand]
+/** Return the texts of the form's fields for the value of a shape.
+ * @param {Shape} shape
  * @returns {Partial<FormValues>}
  */
-function valuesOf(kind, first, from, value, demand) {
+function valuesOf({kind, first, from, value, demand, limit}) {
+  if (kind === "capacity") return {capacity: String(value), worksLimit: String(limit)};
   if (kind === "limit") return {limit: String(value)};
   if (kind === "watch") return {watch: String(value), site: String(first)};
   if (kind === "slow" || kind === "start") {

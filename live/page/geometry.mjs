@@ -48,7 +48,7 @@ export function fits(plan, {kind, first, last, from, to}) {
  */
 export const sameShape = (one, other) => one?.kind === other.kind && one.first === other.first
   && one.last === other.last && one.from === other.from && one.to === other.to
-  && one.value === other.value;
+  && one.value === other.value && one.limit === other.limit;
 
 /** Return the cells of the objects first to last of a kind, the end excluded.
  * @param {Plan} plan
@@ -174,7 +174,7 @@ export function rectangleBetween(plan, kind, [cell, step], [otherCell, otherStep
 }
 
 /** Return a shape with one edge moved to a place. It takes zones that are at least half covered or,
- * with `all`, that it touches.
+ * with `all`, that it touches. The chances of a capacity depend on its zones.
  * @param {Plan} plan
  * @param {Shape} shape
  * @param {Edge} edge
@@ -193,7 +193,7 @@ export function shapeWithEdge(plan, shape, edge, [cell, step], all = false) {
     : [start, clamp(cell, start + 1, plan.length)];
   const [begin, until] = kind === "block" ? objectsIn(plan, kind, cells)
     : zonesIn(plan, cells, all) ?? (edge === "left" ? [last, last] : [first, first]);
-  return {...shape, first: begin, last: until};
+  return {...shape, first: begin, last: until, ...(kind === "capacity" ? {chances: undefined} : {})};
 }
 
 /** Return the object and the step of a shape that are nearest to a place.

@@ -12,6 +12,7 @@ import {keyOf} from "./stamps.mjs";
 /** @typedef {import("./types.mjs").ListNews} ListNews */
 /** @typedef {import("./types.mjs").Operation} Operation */
 /** @typedef {import("./types.mjs").Plan} Plan */
+/** @typedef {import("./types.mjs").Rectangle} Rectangle */
 /** @typedef {import("./types.mjs").Stamp} Stamp */
 
 const MOST_SHOWN = 1000;        // rectangles of a change
@@ -35,8 +36,11 @@ export function plannedValue(plan, kind, index) {
  * @param {Change} sent
  * @returns {Change}
  */
-const keepValid = (plan, sent) => ({...sent, shape: sent.shape && fits(plan, sent.shape) ? sent.shape : null,
-  shown: sent.shown.slice(0, MOST_SHOWN).filter((part) => fits(plan, part))});
+function keepValid(plan, sent) {
+  const keep = (/** @type {Rectangle[]} */ parts) => parts.slice(0, MOST_SHOWN).filter((part) => fits(plan, part));
+  const shape = sent.shape && fits(plan, sent.shape) ? sent.shape : null;
+  return {...sent, shape, shown: keep(sent.shown), covered: keep(sent.covered)};
+}
 
 /** Return where changes are in force.
  * @param {Iterable<Change>} changes

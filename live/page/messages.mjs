@@ -96,6 +96,10 @@ export const TOO_FEW_ZONES =
   "This covers less than half of a zone. Hold Shift to take every zone that it touches.";
 export const END_BEFORE_BEGIN = "The end must be later than the beginning.";
 export const CHANCE_OUT_OF_RANGE = "The chance is out of range: 0 to 100 %.";
+export const CAPACITY_OUT_OF_RANGE =
+  "The capacity must be a number of cars per hour above 0. A total closure is a change of its own: Close.";
+export const MEASURED_WHEN_PUT = "Once you put it, the server measures which slowing leaves it.";
+export const WAITS_FOR_CAPACITY = "Waits until the server has measured which slowing leaves this capacity.";
 
 /** @type {(done: number, all: number) => string} */
 export const measuringInlet = (done, all) => "The server is measuring what this inlet admits"
@@ -107,7 +111,7 @@ export const waitsForInlet = (done, all) =>
 
 /** @param {string} note     of the change */
 export const notMeasured = (note) =>
-  `${note}: not put, because the server has not measured what the inlet admits. Put it again.`;
+  `${note}: not put, because the server could not measure this. Put it again.`;
 
 /** @type {(done: number, all: number) => string} */
 export const measuringDemands = (done, all) =>

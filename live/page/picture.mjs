@@ -16,7 +16,7 @@ import {SPANS, chooseSpan, paintBy, setPlotSize, showRoad, showWholeRoad, zoomBy
 import {valueText} from "./sentences.mjs";
 import {keyOf} from "./stamps.mjs";
 import {isOwn, last, layersShown, need, now, roadOf, store, watch, whoseShown} from "./store.mjs";
-import {HOUR, KMH_A_CELL, LAST_STEP, METRES_A_CELL} from "./units.mjs";
+import {HOUR, KMH_A_CELL, LAST_STEP, METRES_A_CELL, whole} from "./units.mjs";
 import {byMeans, everyShown, partShown, viewNow} from "./view.mjs";
 
 /** @typedef {import("../../viewer/drawing.mjs").LegendEntry} LegendEntry */
@@ -30,7 +30,8 @@ import {byMeans, everyShown, partShown, viewNow} from "./view.mjs";
 /** @typedef {CanvasRenderingContext2D} Context */
 /**
  * A frame that is drawn: where a change is in force, or a shape that is not confirmed yet.
- * @typedef {Omit<Frame, "by"> & {by: Pick<Change, "name" | "seat" | "who">, pending?: boolean}} Drawn
+ * @typedef {Pick<Change, "name" | "seat" | "who"> & Partial<Pick<Change, "shape" | "covered">>} Author
+ * @typedef {Omit<Frame, "by"> & {by: Author, pending?: boolean}} Drawn
  */
 
 const FASTEST = FASTEST_COLOUR;        // cells a step of the last colour, 135 km/h
@@ -206,12 +207,22 @@ function fillClosures(context, view, frames) {
  */
 export const areOfSeveral = (frames) => new Set(frames.map(({by}) => by.seat ?? by.who)).size > 1;
 
+/** Return the shape that a frame stands for: a capacity if the frame is a part of one that holds
+ * everywhere, otherwise the frame's own.
+ * @param {Drawn} frame
+ * @returns {Omit<Drawn, "by">}
+ */
+const shapeOfFrame = (frame) => (frame.by.shape?.kind === "capacity" && !frame.by.covered?.length ? frame.by.shape : frame);
+
 /** Return what is written at a frame.
  * @param {Drawn} frame
  * @param {boolean} named    with whose change it is
  */
-export function labelOf({kind, first, from, value, demand, pending, by}, named) {
-  const text = valueText(layersShown(), kind, value, first, from, demand).toLowerCase();
+export function labelOf(frame, named) {
+  const {pending, by} = frame;
+  const shape = shapeOfFrame(frame);
+  const text = shape.kind === "capacity" ? `${whole(shape.value)} cars/h`
+    : valueText(layersShown(), shape).toLowerCase();
   return text + (pending ? " (pending)" : "") + (named ? `, ${wordsShown().name(by)}` : "");
 }
 
@@ -234,12 +245,13 @@ function drawEdges(context, view, frame, named) {
     assign(context, {strokeStyle: "rgba(255, 255, 255, 0.85)", lineWidth: 4});
     context.strokeRect(...rectangle);
   }
+  const colour = FRAME[shapeOfFrame(frame).kind];
   context.setLineDash(frame.pending ? [2, 2] : own ? [] : [7, 4]);
-  assign(context, {strokeStyle: FRAME[frame.kind], lineWidth: 2});
+  assign(context, {strokeStyle: colour, lineWidth: 2});
   context.strokeRect(...rectangle);
   context.setLineDash([]);
   return {text: labelOf(frame, named), box: [left, top, right, bottom],
-          colour: FRAME[frame.kind], change: frame.pending ? frame : keyOf(frame.by.name)};
+          colour, change: frame.pending ? frame : keyOf(frame.by.name)};
 }
 
 /** Write the labels of frames, clear of closures and of each other, on computed rows.

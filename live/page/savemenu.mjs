@@ -4,7 +4,7 @@
 import {EMPTY, drawLegend, pen} from "../../viewer/drawing.mjs";
 import {ask, askUntilFree} from "./questions.mjs";
 import {comparedNow, daysShown} from "./comparison.mjs";
-import {measureDemands} from "./demand.mjs";
+import {measureDemands} from "./measurements.mjs";
 import {withoutCursor} from "./draft.mjs";
 import {$, activeIn, closest, download, on} from "./elements.mjs";
 import {Words, newestFirst} from "./changetexts.mjs";

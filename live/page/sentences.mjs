@@ -3,7 +3,7 @@
 // of its inlet, once that is measured.
 
 import {OF_ZONES, cellsOf} from "./geometry.mjs";
-import {chanceText, demandOfChance, kmText, limitText, metresText, plural, whole} from "./units.mjs";
+import {ALWAYS, chanceText, demandOfChance, kmText, limitText, metresText, plural, whole} from "./units.mjs";
 
 /** @typedef {import("./types.mjs").Kind} Kind */
 /** @typedef {import("./types.mjs").Plan} Plan */
@@ -22,22 +22,21 @@ export function placesText(plan, kind, first, last) {
   return `${kmText(from)}\u2013${kmText(to)} km`;
 }
 
-/** Return a value that an object of a kind has from a step on, in a few words, as text.
+/** Return the value of a shape in a few words, as text.
  * @param {MeasuredRoad} road
- * @param {Kind} kind
- * @param {number} value
- * @param {number} index
- * @param {number} step
- * @param {number} [demand]     of an inflow, in cars per hour, if it is known
+ * @param {Omit<Shape, "last" | "to">} shape
  */
-export function valueText(road, kind, value, index, step, demand) {
+export function valueText(road, {kind, first, from, value, demand, limit = 0, chances}) {
   if (kind === "block") return value ? "Closed" : "Open";
   if (kind === "limit") return limitText(value);
   if (kind === "watch") return value ? "Detector on" : "Detector off";
   if (kind === "slow") return `Slowing ${chanceText(value)}`;
   if (kind === "start") return `Slow to start ${chanceText(value)}`;
-  if (kind === "capacity") return `Capacity ${whole(value)} cars/h`;
-  const curve = demand === undefined ? road.curveAt(index, step) : null;
+  if (kind === "capacity") {
+    const slowing = chances ? `, slowing ${(chances[0] / ALWAYS).toFixed(2)}` : "";
+    return `Capacity ${whole(value)} cars/h: limit ${limitText(limit)}${slowing}`;
+  }
+  const curve = demand === undefined ? road.curveAt(first, from) : null;
   const cars = curve ? demandOfChance(value, curve) : demand;
   return cars === undefined ? "Demand that is being measured" : `Demand ${whole(cars)} cars/h`;
 }
@@ -46,8 +45,9 @@ export function valueText(road, kind, value, index, step, demand) {
  * @param {MeasuredRoad} road
  * @param {Shape} shape
  */
-export function shapeText(road, {kind, first, last, from, to, value, demand}) {
-  const what = valueText(road, kind, value, first, from, demand);
+export function shapeText(road, shape) {
+  const {kind, first, last, from, to} = shape;
+  const what = valueText(road, shape);
   const where = placesText(road.plan, kind, first, last);
   return `${what}${kind === "block" ? "" : ","} ${where}, ${road.day.spanText(from, to)}`;
 }
@@ -60,10 +60,12 @@ export const THINGS = {limit: "Limit", block: "Closure", inflow: "Demand", watch
  * @param {MeasuredRoad} road
  * @param {Shape} shape
  */
-export function thingText(road, {kind, first, from, value, demand}) {
+export function thingText(road, shape) {
+  const {kind, value} = shape;
   if (kind === "block") return value ? "closure" : "opening";
   if (kind === "watch") return value ? "detector switched on" : "detector switched off";
-  const text = valueText(road, kind, value, first, from, demand);
+  if (kind === "capacity") return `capacity of ${whole(value)} cars/h`;
+  const text = valueText(road, shape);
   return kind === "limit" ? `limit of ${text}` : text[0].toLowerCase() + text.slice(1);
 }
 

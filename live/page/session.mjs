@@ -5,7 +5,7 @@ import {refreshDiagram} from "./navigation.mjs";
 import {askPreview, restorePending, persistPending, refreshChanges, send} from "./gestures.mjs";
 import {untaken} from "./changes.mjs";
 import {hearDays} from "./comparison.mjs";
-import {curveAt} from "./demand.mjs";
+import {curveAt} from "./measurements.mjs";
 import {Connection, TAKEN_OVER} from "./connection.mjs";
 import {DayClock} from "./dayclock.mjs";
 import {loadSeats, remember, remembered, storeSeat} from "./storage.mjs";

@@ -32,8 +32,8 @@ import {HOUR} from "./units.mjs";
 /** @typedef {ReturnType<typeof setTimeout>} Timer */
 /** @typedef {"undo" | "redo"} Press */
 /** @typedef {"asTable" | "past" | "series"} Fold     a part of the page that can be folded, by its id */
-/** @typedef {"limit" | "watch" | "demand" | "inlet" | "site" | "slow" | "start" | "kmFrom" | "kmTo"
- *           | "timeFrom" | "timeTo"} Field     of the form, by its id */
+/** @typedef {"limit" | "watch" | "demand" | "inlet" | "site" | "slow" | "start" | "capacity"
+ *           | "worksLimit" | "kmFrom" | "kmTo" | "timeFrom" | "timeTo"} Field     of the form, by its id */
 /** @typedef {Record<Field, string>} FormValues   as they are typed */
 /**
  * The question for a name, before joining: why the page asks, the seats that are not open in any tab,
@@ -89,7 +89,7 @@ import {HOUR} from "./units.mjs";
  * @property {Listed[]} changes        what the lists show
  * @property {News & {text: string}} news    what others shared and is not taken
  * @property {Map<string, Pending>} pending  by key: sent again after a break
- * @property {Map<string, Area>} waiting     demands that wait until their inlet is measured
+ * @property {Map<string, Area>} waiting     demands and capacities that wait until they are measured
  * @property {boolean} isPersisted     the tab's storage has what is pending
  * @property {Press[]} undoPresses     of Undo and Redo, until it is known what they undo or redo
  * @property {Map<string, string>} notes     of this tab's operations, by stamps
@@ -169,7 +169,7 @@ export const store = {
 
   tool: "look", changeInForm: null, formOfChange: {}, hasLetters: true,
   form: {limit: "2", watch: "0", demand: "1000", inlet: "0", site: "0", slow: "25", start: "50",
-         kmFrom: "", kmTo: "", timeFrom: "", timeTo: ""},
+         capacity: "900", worksLimit: "2", kmFrom: "", kmTo: "", timeFrom: "", timeTo: ""},
 
   extent: {cell: 0, cells: 0, step: 0, span: HOUR}, plot: [800, 400], whose: "mine", paint: "zoom",
   follows: true, isOpen: {asTable: false, past: false, series: false}, area: null, corner: null,

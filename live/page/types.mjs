@@ -12,9 +12,10 @@
  *
  * Objects `first` to `last` have the value from step `from` until step `to`; `to` null: for ever.
  * `demand` is the demand that an inflow was put for, in cars per hour, if there is one. A capacity is
- * in cars per hour, and `measured` are the limit and the two chances that its zones have.
+ * in cars per hour; its zones have `limit`, and the `chances` of slowing and slow to start, which the
+ * server finds. Without them it cannot be put yet.
  * @typedef {{kind: Kind, first: number, last: number, from: number, to: number | null,
- *            value: number, demand?: number, measured?: number[]}} Shape
+ *            value: number, demand?: number, limit?: number, chances?: number[]}} Shape
  *
  * A part of a change. `by` names the change that covers it there; null: it is in force.
  * @typedef {Shape & {by: Stamp | null}} Rectangle
@@ -78,6 +79,7 @@
  * @property {boolean} standing
  * @property {boolean} shared
  * @property {Rectangle[]} shown
+ * @property {Rectangle[]} covered    where a capacity no longer holds
  * @property {Operation[]} operations
  * @property {string | null} site     the site that it excludes
  * @property {Rectangle[] | null} [was]
@@ -281,6 +283,7 @@
  * @property {{rows: string[]}} diagram
  * @property {{flows: (DetectorFigures | DetectorFigures[])[]}} counts    with `each`, lists by span
  * @property {Curve} admission
+ * @property {{value: number[]}} capacity
  * @property {{lines: string, to: number}} script
  * @property {{html: string}} report
  * @property {{sums: number[]}} sums
@@ -324,8 +327,8 @@
  *      shape?: WireShape | null, demand?: unknown}} WireOperation
  *
  * Another site may have made shapes and parts: they may be anything.
- * @typedef {Omit<Change, "name" | "shape" | "shown" | "operations" | "site" | "was">
- *   & {name: WireStamp, shape?: unknown, shown: unknown, operations: WireOperation[],
+ * @typedef {Omit<Change, "name" | "shape" | "shown" | "covered" | "operations" | "site" | "was">
+ *   & {name: WireStamp, shape?: unknown, shown: unknown, covered?: unknown, operations: WireOperation[],
  *      site?: string | null, was?: unknown, demand?: unknown}} WireChange
  * @typedef {{name: WireStamp, gone: true}} WireGone
  *

@@ -18,7 +18,7 @@ test("a shape and a stamp have named fields, and are encoded as they were sent",
 
 test("a capacity has the values of its zones beside its own", () => {
   const sent = ["capacity", 4, 5, 1200, null, [900, 2, 9000, 20000]];
-  const shape = {...SHAPE, kind: "capacity", value: 900, measured: [2, 9000, 20000]};
+  const shape = {...SHAPE, kind: "capacity", value: 900, limit: 2, chances: [9000, 20000]};
   assert.deepEqual(decodeShape(sent), shape);
   assert.deepEqual(encodeShape(shape), sent);
   for (const wrong of [900, [], ["x", 2, 0, 0], [900, 2, 0.5, 0], null]) {

@@ -34,8 +34,8 @@ def value_at(edits: Sequence[WrittenEdit], plan: PlanLine, inlet: int, step: int
 
 class Freeways(Case):
     async def test_a_freeway_in_km_gives_the_road_of_the_recipe(self) -> None:
-        """Compare its rows with those of the edits that the recipe makes from the same file."""
-        server = self.server(plan=KM)
+        """Compare its rows with those of the edits that the recipe makes from the same file. A capacity is one line of the list."""
+        server = self.server(plan={**KM, "sections": [*KM["sections"], [0.3, 0.6, 2, 6, None, None, None, 900]]})
         async with server.seat() as ada:
             await ada.ask("take", message="shared")
             await ada.say("clock", to=900)
@@ -45,7 +45,7 @@ class Freeways(Case):
             plan["replicas"] = ["A"]
             lines = (await ada.ask("layers", at="shared", **{"from": 0}))["layers"]
             self.assertEqual({line["who"] for line in lines}, {"plan.json"})
-            self.assertEqual([line["kind"] for line in lines], ["inflow", "limit", "slow", "limit", "block"])
+            self.assertEqual([line["kind"] for line in lines], ["inflow", "limit", "slow", "limit", "capacity", "block"])
             self.assertEqual([one["name"] for one in (await ada.say("seats"))["seats"]], ["Ada"])
         puts = self.of_recipe(server.folder / "plan.json").edits
         script: list[Mapping[str, object]] = [plan, *({"edit": {"at": "A", "object": [kind, index], "step": step, "value": value}}
@@ -229,7 +229,7 @@ class Freeways(Case):
     async def test_a_freeway_that_was_only_partly_set_up_is_set_up_again(self) -> None:
         """Here the server was killed before the works were shared."""
         folder, keys = new_folder(), dict[Path, dict[str, str]]()
-        (folder / "token").write_text("a token of 24 characters")
+        (folder / "token").write_text("a-token-of-24-characters")
         (folder / "stalled").write_text("journal.jsonl")
         (folder / "road.json").write_text(json.dumps(KM), encoding="utf-8")
         process = started([sys.executable, str(LIVE / "tests" / "stalling.py"), "--folder", str(folder), "--port", "0",

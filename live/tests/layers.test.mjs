@@ -103,13 +103,19 @@ test("a capacity sets a limit and two chances, and a change may cover each of th
   const capacity = line(stamp(1, ADA), "Ada", ["capacity", 4, 5, 0, null, [900, 2, 9000, 20000]], []);
   capacity.shown = [["limit", 4, 5, 0, null, 2, stamp(2, BEN)], ["slow", 4, 5, 0, null, 9000, null],
                     ["start", 4, 5, 0, null, 20000, null]];
+  capacity.covered = [["capacity", 4, 5, 0, null, [900, 2, 9000, 20000], stamp(2, BEN)]];
   const layers = road(capacity, line(stamp(2, BEN), "Ben", ["limit", 4, 5, 0, null, 3], [[0, null, null]]));
   assert.deepEqual(["limit", "slow", "start"].map((kind) => layers.valueAt(kind, 4, 60)), [3, 9000, 20000]);
   const found = layers.find(nameOf(1, ADA));
-  assert.deepEqual([found.shape.value, found.shape.measured], [900, [2, 9000, 20000]]);
+  assert.deepEqual([found.shape.value, found.shape.limit, found.shape.chances], [900, 2, [9000, 20000]]);
   const words = new Words(layers, ADA);
-  assert.equal(words.text(found), "Capacity 900 cars/h, 1.5\u20132.25 km, from 0:00:00 on");
-  assert.match(words.cover(found), /[Cc]overed from 0:00:00 on by Ben's limit of 81 km\/h/);
+  assert.equal(words.text(found), "Capacity 900 cars/h: limit 54 km/h, slowing 0.14, 1.5\u20132.25 km, from 0:00:00 on");
+  assert.equal(words.cover(found), "The capacity no longer holds: covered 1.5\u20132.25 km, from 0:00:00 on by Ben's limit of 81 km/h.");
+  assert.equal(words.parts(found, false), "1.5\u20132.25 km, from 0:00:00 on by Ben's limit of 81 km/h");
+  assert.equal(words.parts(found, true), "Slowing 1.5\u20132.25 km, from 0:00:00 on; Slow to start 1.5\u20132.25 km, from 0:00:00 on");
+  const whole = {...found, covered: [], shown: found.shown.map((part) => ({...part, by: null}))};
+  assert.deepEqual([words.cover(whole), words.parts(whole, true), words.parts(whole, false)],
+                   ["", "1.5\u20132.25 km, from 0:00:00 on", ""]);
 });
 
 test("a line says where it is in force, and what covers it", () => {

@@ -109,7 +109,7 @@ class ForAll(BrowserCase):
             tab.driver.execute_cdp_cmd("Emulation.setDeviceMetricsOverride",
                                        {"width": width, "height": height, "deviceScaleFactor": 1, "mobile": False})
             tab.settled()
-            for kind in ("look", "block", "limit", "inflow", "slow", "start", "watch"):
+            for kind in ("look", "block", "capacity", "limit", "inflow", "slow", "start", "watch"):
                 tab.tool(kind)
                 boxes = tab.script("""
                     const box = (one) => { const {left, top, right, bottom} = one.getBoundingClientRect();

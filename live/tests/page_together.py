@@ -62,7 +62,8 @@ class TwoTabs(BrowserCase):
         ada.take()
         names = ada.script("return [...document.querySelectorAll('#held button')].map((one) => one.ariaLabel)")
         self.assertEqual([name for name in names if name.startswith("Change")],
-                         ["Change: Closed 0.75–0.765 km, 0:10:00–0:11:40",
+                         ["Change: Capacity 900 cars/h: limit 54 km/h, slowing 0.14, 0.75–1.5 km, 0:10:00–0:11:40",
+                          "Change: Closed 0.75–0.765 km, 0:10:00–0:11:40",
                           "Change: 54 km/h, 4.125–4.5 km, from 1:30:00 on"])
         ada.press("Change: 54 km/h")
         values = [ada.part(name).get_attribute("value") for name in ("limit", "kmFrom", "kmTo", "timeFrom", "timeTo")]
@@ -79,7 +80,7 @@ class TwoTabs(BrowserCase):
         async with self.server.seat("Cron") as cron:
             await cron.ask("gesture", key="limit", shape=["limit", 11, 11, 5400, None, 2])
             await cron.ask("gesture", key="closed", shape=["block", 100, 101, 600, 700, 1])
-            await cron.ask("gesture", key="works", shape=["capacity", 2, 3, 600, 700, [900, 2, 9_000, 20_000]])  # the page cannot change it
+            await cron.ask("gesture", key="works", shape=["capacity", 2, 3, 600, 700, [900, 2, 9_000, 20_000]])
             await cron.ask("send", name="shared")
 
     def test_everybody_who_joins_sees_how_to_begin(self) -> None:

@@ -22,14 +22,15 @@ test("places are written in km, and zones are counted", () => {
 });
 
 test("values are written with their units", () => {
-  const text = (kind, value) => valueText(ROAD, kind, value, 0, 0);
+  const text = (kind, value, more = {}) => valueText(ROAD, {kind, value, first: 0, from: 0, ...more});
   assert.equal(text("block", 1), "Closed");
   assert.equal(text("block", 0), "Open");
   assert.equal(text("limit", 2), "54 km/h");
   assert.equal(text("watch", 0), "Detector off");
   assert.equal(text("slow", 16384), "Slowing 25 %");
   assert.equal(text("start", 32768), "Slow to start 50 %");
-  assert.equal(text("capacity", 900), "Capacity 900 cars/h");
+  assert.equal(text("capacity", 1900, {limit: 2}), "Capacity 1,900 cars/h: limit 54 km/h");
+  assert.equal(text("capacity", 900, {limit: 2, chances: [20316, 20316]}), "Capacity 900 cars/h: limit 54 km/h, slowing 0.31");
 });
 
 test("a demand is in cars per hour: what was asked for, otherwise what the inlet admits then", () => {
@@ -56,4 +57,5 @@ test("a shape is described in a few words", () => {
   assert.equal(text("slow", 0, 0, 0, null, 16384), "slowing 25 %");
   assert.equal(text("inflow", 0, 0, 0, null, Math.round(0.588 * 65536)), "demand 1,500 cars/h");
   assert.equal(text("watch", 0, 0, 0, null, 0), "detector switched off");
+  assert.equal(text("capacity", 0, 0, 0, null, [900, 2, 20316, 20316]), "capacity of 900 cars/h");
 });

@@ -22,6 +22,7 @@ from server.figures.admission import Curve
 from server.journal.entries import read_plan_line
 from server.model.reading import read_operation
 from server.shell.put import InvalidWords, find_chance, find_state, read_change
+from works import admits
 from zegdrut.roads.clock import Clock
 from zegdrut.program.wire import WrittenEdit
 
@@ -54,6 +55,8 @@ class Written(unittest.TestCase):
                  "slowing 25 %, km 0.3 to 0.45, 06:40 to 06:50:30"),
                 (("slow-to-start", "50", "0", "0.9", "6:31", "6:32"), ["start", 0, 5, 60, 120, 32_768],
                  "slow-to-start 50 %, km 0 to 0.9, 06:31 to 06:32"),
+                (("capacity", "900", "50", "0.2", "0.45", "7:00"), ["capacity", 1, 2, 1_800, None, (900, 2, 0, 0)],
+                 "capacity 900 cars/h, limit 54 km/h, km 0.15 to 0.45, from 07:00 on"),
                 (("detector", "off", "0.5", "06:45"), ["watch", 1, 1, 900, None, 0], "detector off, at km 0.525, from 06:45 on"),
                 (("demand", "1200.5", "0.2", "06:45"), ["inflow", 1, 1, 900, None, 0], "1200.5 cars/h, at km 0.3, from 06:45 on")):
             written = read_change(words, PLAN, clock)
@@ -61,10 +64,11 @@ class Written(unittest.TestCase):
         self.assertEqual(written.demand, 1_200.5)
 
     def test_a_wrong_change_is_refused_with_a_reason(self) -> None:
-        for words, why in ((("jump", "1"), "'jump' is not a kind of change: write one of close, limit"), (("limit", "54", "0"), "write limit KMH"),
+        for words, why in ((("jump", "1"), "'jump' is not a kind of change: write one of close, capacity, limit"), (("limit", "54", "0"), "write limit KMH"),
                            (("limit", "300", "0", "0.1", "1"), "0 to 243 km/h, not 300"), (("close", "2", "3", "1"), "0 to 0.9 km"),
                            (("close", "0.2", "0.1", "1"), "the smaller first"), (("slowing", "101", "0", "0.1", "1"), "0 to 100 %"),
                            (("detector", "1", "0", "1"), "on or off"), (("close", "a", "0.1", "1"), "'a' is not a number of km"),
+                           (("capacity", "many", "54", "0", "0.1", "1"), "'many' is not a number of cars per hour"),
                            (("close", "0", "0.1", "soon"), "BEGIN: 'soon' is not a time"), (("close", "0", "0.1", "9", "8"), "not later than"),
                            ((), "'' is not a kind of change")):
             with self.assertRaisesRegex(InvalidWords, re.escape(why)):
@@ -183,17 +187,20 @@ class Shell(Case):
             self.assertEqual(paths[-1].stat().st_mode & 0o777, 0o600)
 
     async def test_changes_are_written_in_km_and_clock_times(self) -> None:
-        """A demand agrees with the package's curve, within half a car per hour."""
+        """A demand agrees with the package's curve, within half a car per hour. The chances of a capacity leave its cars."""
         (self.a6.folder / "freeway.json").write_text('{"begin": "06:30"}', encoding="utf-8")
         said = [await self.road("cron", "put", *words) for words in (
-            ("limit", "50", "0.2", "0.45", "6:40"), ("demand", "1200", "0", "06:45", "07:00"), ("demand", "1900", "0", "1"))]
+            ("limit", "50", "0.2", "0.45", "6:40"), ("capacity", "900", "54", "0.6", "0.9", "6:50"), ("demand", "1200", "0", "06:45", "07:00"), ("demand", "1900", "0", "1"))]
         self.assertEqual([(status, out.partition(" ")[2]) for status, out, _ in said], [
-            (0, "limit 54 km/h, km 0.15 to 0.45, from 06:40 on"), (0, "1200 cars/h, at km 0, 06:45 to 07:00"), (2, "")])
-        self.assertIn("this inlet admits 0 to 1,7", said[2][2])
+            (0, "limit 54 km/h, km 0.15 to 0.45, from 06:40 on"),
+            (0, "capacity 900 cars/h, limit 54 km/h, km 0.6 to 0.9, from 06:50 on"), (0, "1200 cars/h, at km 0, 06:45 to 07:00"), (2, "")])
+        self.assertIn("this inlet admits 0 to 1,7", said[3][2])
         async with self.a6.seat("Ada") as ada:
             await self.road("cron", "share")
             shapes: dict[str | None, Any] = {line["kind"]: line["shape"] for line in (await ada.ask("layers", at="shared", **{"from": 0}))["layers"]}
-        chance = shapes.pop("inflow")[5]
+        chance, (*where, value) = shapes.pop("inflow")[5], shapes.pop("capacity")
+        self.assertEqual((where, value[:2]), (["capacity", 4, 5, 1_200, None], [900, 2]))
+        admits(self, value, (5, 0.1, 0.1), 40)
         self.assertEqual(shapes, {"limit": ["limit", 1, 2, 600, None, 2]})
         from zegdrut.roads.demand import Drivers, measure_admission
         self.assertAlmostEqual(measure_admission(Drivers(5, 6_554)).admitted(chance), 1_200, delta=0.5)

@@ -7,7 +7,7 @@ import {test} from "node:test";
 const PAGE = new URL("../page/", import.meta.url);
 const SOURCES = new Map(readdirSync(PAGE).filter((name) => name.endsWith(".mjs")).map((name) =>
   [name.replace(".mjs", ""), readFileSync(new URL(name, PAGE), "utf8")]));
-const ACTIONS = ["comparison", "demand", "draft", "filenames", "gestures", "loader", "navigation", "session", "store"];
+const ACTIONS = ["comparison", "draft", "filenames", "gestures", "loader", "measurements", "navigation", "session", "store"];
 const PURE = ["assign", "changetexts", "connection", "dayclock", "decoding", "estimates", "geometry", "labels", "layers",
               "messages", "rows", "sentences", "stamps", "storage", "tables", "undo", "units"];
 // The store's watchers, and a cache of painted tiles.

@@ -139,11 +139,11 @@ class Traffic(unittest.TestCase):
 
     def test_a_queue(self) -> None:
         """A closure whose queue is longer than the road costs as many vehicle hours with an approach as on a road that is longer from the beginning,
-        and as a queue before the road, but many more than without any. The delay is the sum of the cars in all rows, after minus before."""
+        where nobody needs to wait before it, and as a queue before the road, but many more than without any. The delay is the sum of the cars in all rows, after minus before."""
         figures = dataclasses.replace(PLAIN, slowing=0.16, start=0.45, main=1_000, minutes=45, stalled=[Stalled(1.0, 5, 25)])
         longer = dataclasses.replace(figures, length=7.5, stretch=(1, 2), stalled=[Stalled(7.0, 5, 25)])
         costs: list[list[float]] = []
-        for one, waits in ((figures, False), (figures, True), (dataclasses.replace(figures, approach=6.0), True), (longer, True)):
+        for one, waits in ((figures, False), (figures, True), (dataclasses.replace(figures, approach=6.0), False), (longer, False)):
             road = make_road(with_lead(one))
             chances = measure_chances(road)
             costs.append([])
@@ -155,7 +155,7 @@ class Traffic(unittest.TestCase):
         lost, waited, approached, true = (sum(days) / 3 for days in costs)
         self.assertLess(lost, 0.6 * true, costs)
         self.assertLess(abs(approached / true - 1), 0.08, costs)
-        self.assertLess(abs(waited / true - 1), 0.2, costs)
+        self.assertLess(abs(waited / true - 1), 0.25, costs)
 
 
 class Measurements(unittest.TestCase):

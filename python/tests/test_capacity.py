@@ -58,7 +58,7 @@ class Capacity(unittest.TestCase):
 
     def test_what_it_becomes(self) -> None:
         """A capacity is a limit (54 km/h by default), a slowing chance, and the same chance for standing cars, in the zones of its section. The
-        note and the shapes have the same values."""
+        note and the shape have the same values."""
         figures = read_figures(sections=[[0.9, 1.2, 10, 30, None, None, None, 900]], zone=0.3)
         road = make_road(figures)
         found = find_capacity(900, 54, Drivers(5, 10_486, 29_491), 40)
@@ -68,7 +68,7 @@ class Capacity(unittest.TestCase):
                          [f"the section from km 0.9 to 1.2: 900 cars/h: limit 54 km/h, slowing {found.slowing / 65_536:.2f}"])
         self.assertEqual(describe_capacity(found), f"900 cars/h: limit 54 km/h, slowing {found.slowing / 65_536:.2f}")
         self.assertEqual([shape for shape in make_shapes(figures, road, [[(0, 60_000)]]) if shape[3]],
-                         [(kind, 3, 3, 600, 1_800, value) for kind, value in (("limit", 2), ("slow", found.slowing), ("start", found.slowing))])
+                         [("capacity", 3, 3, 600, 1_800, (900, 2, found.slowing, found.slowing))])
 
     def test_refusals(self) -> None:
         """Each refusal says what to do."""
@@ -85,6 +85,11 @@ class Capacity(unittest.TestCase):
         with self.assertRaises(Fault) as caught:
             read_figures(sections=[{"first": 0.9, "last": 1.2, "begin": 10, "end": 30, "capacity": "900"}])
         self.assertIn('sections[0].capacity: "900" is not a number', str(caught.exception))
+
+    def test_works_that_make_a_jam_or_none(self) -> None:
+        """If nearly all standing cars are slow to start, works leave the flow of free traffic or that of a jam, and nothing between."""
+        with self.assertRaisesRegex(Fault, "works of 0.45 km with a limit of 81 km/h leave .* or, once cars stand before them, at most 4[0-9]{2}$"):
+            find_capacity(900, 81, Drivers(5, 6_554, 60_000), 60)
 
 
 if __name__ == "__main__":

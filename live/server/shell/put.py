@@ -15,15 +15,16 @@ from zegdrut.program.wire import PlanLine, WrittenEdit
 from zegdrut.roads.clock import Clock, InvalidTime
 from zegdrut.roads.units import KMH, to_cells, to_chance, to_km, to_limit
 
-from ..model.operations import Shape
+from ..model.operations import CAPACITY, Shape
 
 if TYPE_CHECKING:
     from ..figures.admission import Curve
 
-HOW = {"close": "FROM_KM TO_KM BEGIN [END]", "limit": "KMH FROM_KM TO_KM BEGIN [END]", "slowing": "PERCENT FROM_KM TO_KM BEGIN [END]",
+HOW = {"close": "FROM_KM TO_KM BEGIN [END]", "capacity": "CARS_PER_HOUR KMH FROM_KM TO_KM BEGIN [END]",
+       "limit": "KMH FROM_KM TO_KM BEGIN [END]", "slowing": "PERCENT FROM_KM TO_KM BEGIN [END]",
        "slow-to-start": "PERCENT FROM_KM TO_KM BEGIN [END]", "demand": "CARS_PER_HOUR INLET_KM BEGIN [END]",
        "detector": "on|off KM BEGIN [END]"}
-KIND_OF_WORD = {"close": "block", "limit": "limit", "slowing": "slow", "slow-to-start": "start", "demand": "inflow", "detector": "watch"}
+KIND_OF_WORD = {"close": "block", "capacity": CAPACITY, "limit": "limit", "slowing": "slow", "slow-to-start": "start", "demand": "inflow", "detector": "watch"}
 
 
 class InvalidWords(ValueError):
@@ -32,7 +33,8 @@ class InvalidWords(ValueError):
 
 @dataclass(frozen=True)
 class WrittenChange:
-    """A change: its shape, the demand in cars per hour or None, and a sentence that describes it. The shape of a demand has the value 0."""
+    """A change: its shape, the demand in cars per hour or None, and a sentence that describes it. The shape of a demand has the value 0. That
+    of a capacity has no chances yet: the server finds them."""
 
     shape: Shape
     demand: float | None
@@ -54,13 +56,16 @@ def read_change(words: Sequence[str], plan: PlanLine, clock: Clock) -> WrittenCh
     if not most - 1 <= len(given) <= most:
         raise InvalidWords(f"too few or too many words: write {kind} {HOW[kind]}")
     value = None if kind == "close" else given.pop(0)
+    cars = int(parse_number(value or "", "a number of cars per hour")) if kind == "capacity" else None
+    value = value if cars is None else given.pop(0)
     places = [given.pop(0) for _ in range(1 if kind in ("demand", "detector") else 2)]
     begin, end = read_times(given, clock)
-    number, said = read_value(kind, value)
+    number, said = read_value("limit" if kind == "capacity" else kind, value)
     first, last, where = find_places(kind, [parse_number(one, "a number of km") for one in places], plan)
     times = f"from {clock.to_text(begin)} on" if end is None else f"{clock.to_text(begin)} to {clock.to_text(end)}"
-    return WrittenChange(Shape(KIND_OF_WORD[kind], first, last, begin, end, number), float(value or 0) if kind == "demand" else None,
-                         f"{said}, {where}, {times}")
+    shape = Shape(KIND_OF_WORD[kind], first, last, begin, end, number if cars is None else (cars, number, 0, 0))
+    return WrittenChange(shape, float(value or 0) if kind == "demand" else None,
+                         f"{'' if cars is None else f'capacity {cars:,} cars/h, '}{said}, {where}, {times}")
 
 
 def parse_number(text: str, accepted: str) -> float:

@@ -6,7 +6,7 @@ from typing import Mapping, Sequence, TypedDict
 from zegdrut.program.wire import PlanLine, WrittenEdit
 
 from ..figures.figures import DetectorFigures, Head, Row, TwoTimes
-from ..model.operations import Json, Shape, Stamp
+from ..model.operations import Capacity, Json, Shape, Stamp
 from ..sites.peers import BrokerState
 from .change_list import ListedOperation, Line
 from .seating import ListedSeat
@@ -34,6 +34,6 @@ Frame = TypedDict("Frame", {
     "changes": Sequence[ListedOperation], "operations": Sequence[ReplicaOperation], "horizon": int, "cells": str, "rows": Sequence[str],
     "cars": Json, "speeds": int, "edits": Sequence[WrittenEdit], "sums": Sequence[int], "flows": Sequence[DetectorFigures],
     "counts": Json, "from": int, "to": int, "figures": Sequence[Row], "entries": TwoTimes, "days": int, "stopped": bool, "lines": str,
-    "html": str, "csv": str, "points": Sequence["tuple[int, float]"], "capacity": float, "now": int,
+    "html": str, "csv": str, "points": Sequence["tuple[int, float]"], "capacity": float, "value": Capacity, "now": int,
     "news": NewsFrame, "pong": Json, "broker": BrokerState, "trouble": "str | None", "program": Mapping[str, int]}, total=False)
 """The fields of all replies and news. Each frame has some of them."""

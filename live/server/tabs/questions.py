@@ -27,7 +27,7 @@ from ..model.choices import sendable
 from ..model.demands import asked_demands
 from ..model.lines import all_lines, find_altered_lines
 from ..model.operations import Json, Operation, Stamp, Unreadable
-from ..model.projection import Edits
+from ..model.projection import Edits, value_of
 from ..model.road import Road
 from ..model.visibility import visible_rectangles
 from ..roads import rows
@@ -261,6 +261,21 @@ class Questions:
         entry = find_entry(plan, cell) if beside else 0
         return await self._curves.find_curve({"limit": limit, "slowing": slowing, "start": start, "entry": entry,
                                                   "cell": cell if beside else 0, "before": beside}, self._keeper.path)
+
+    async def capacity(self, road: Road, first: int, last: int, cars: int, limit: int) -> Reply:
+        """Return the value of a shape of kind `capacity` on the zones `first` to `last`: works with a limit that leave some cars per hour
+        of the plan's drivers."""
+        plan = self._keeper.state.plan
+        if not first <= last < len(plan["zones"]):
+            raise Refused("Range", f"`first` and `last` must be 0 to {len(plan['zones']) - 1}, the smaller first")
+        starts = [value_of(one) for one in road.on_object("start", first) if one.begin == 0 and road.layers[one.name].kind == "start"]
+        speed, slowing = plan["zones"][first]
+        cells = min((last + 1) * plan["zone"], plan["length"]) - first * plan["zone"]
+        found = await self._curves.find_works({"cars": cars, "limit": limit, "drivers": (speed, slowing, next(iter(starts), None)),
+                                               "cells": cells}, self._keeper.path)
+        if "why" in found:
+            raise Refused("Range", found["why"])
+        return found
 
     # What would be
 

@@ -6,6 +6,7 @@ from dataclasses import dataclass
 from typing import Awaitable, Callable, TypeVar
 
 from zegdrut.program.grammar import LAST_HORIZON
+from zegdrut.program.rows import FASTEST as FASTEST_CAR
 
 from ..journal.keeper import SHARED
 from ..journal.lab import Author, Lab
@@ -159,6 +160,13 @@ def admission(asked: CommandFields) -> Handler:
     return reply
 
 
+def capacity(asked: CommandFields) -> Handler:
+    """Read the zones of works, the cars per hour that they leave, and their limit."""
+    first, last, cars = (asked.whole(name) for name in ("first", "last", "cars"))
+    limit = asked.whole("limit", 0, FASTEST_CAR)
+    return lambda call: call.questions.capacity(call.replica.road, first, last, cars, limit)
+
+
 # Commands that change, share or take
 
 def making(asked: CommandFields, make: Callable[[Lab, Author], Operation], has_note: bool = True) -> Handler:
@@ -293,6 +301,7 @@ VERBS: dict[str, Verb] = {
     "diagram": Verb(ROADS, diagram),
     "sums": Verb(ROADS, reader_of_one_part(read_steps, lambda call, span: call.questions.sums(call.road, call.times, *span))),
     "counts": Verb(ROADS, counts),
+    "capacity": Verb(KEPT_ROADS, capacity),
     # Lists and previews
     "layers": Verb(KEPT_ROADS, reader_of_one_part(lambda asked: asked.version("from"), lambda call, version: call.questions.layers(
         call.index, call.replica, version)), SHARED_ROAD),

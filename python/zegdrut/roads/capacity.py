@@ -36,6 +36,10 @@ ROUGH = (0.0, 0.15, 0.3, 0.45, 0.6, 0.7, 0.8, 0.9, 0.95)
 """The slowing chances that are tried first."""
 NEAR = 0.02
 """How far from the rough slowing chance the flow is measured exactly."""
+MOST_MOVES = 6
+"""How often the rough slowing chance is moved by twice as much, at most, until the exact flows include the wanted one."""
+STEEPEST = 300
+"""If exact flows differ by more cars per hour, one of them is that of a jam, and no slowing chance leaves what is between them."""
 
 JAM, OPENED, SETTLED, LEAVING = 800, 2_400, 300, 900
 """The standing cars of a jam, the step in which its head is opened, the steps until its outflow is measured, and the steps of that."""
@@ -56,7 +60,8 @@ def find_capacity(cars: float, limit: float, drivers: Drivers, cells: int = 100)
     """Return works that leave some cars per hour, with a limit in km/h, on a road with some drivers. It takes two seconds, and is cached.
 
     cells: the length of the works. Short works hinder cars less than long ones do. Fault: the limit is below a cell per step, or works with
-    this limit leave fewer cars, or more, whatever their slowing chance is."""
+    this limit leave fewer cars, or more, whatever their slowing chance is. With drivers who start slowly, works may leave either many cars
+    or, once cars stand before them, far fewer."""
     if to_limit(limit) < 1:
         raise Fault(f"a capacity needs a limit above 0 km/h, not {limit:g}: works that leave no car are a closure")
     return _find(cars, to_limit(limit), drivers._replace(entry=0), min(max(cells, LENGTHS[0]), LENGTHS[-1]))
@@ -70,8 +75,16 @@ def _find(cars: float, limit: int, drivers: Drivers, cells: int) -> Capacity:
         raise Fault(f"a capacity of {cars:,.0f} cars per hour is out of range: works of {format_km(cells)} km with a limit of {limit * KMH:g} km/h leave "
                     f"{least:,.0f} to {most:,.0f} cars per hour on this road")
     flows = sorted(dict(reversed(rough)).items())
-    middle = min(max(Monotone([flow for flow, _ in flows], [slowing for _, slowing in flows])(cars), NEAR), 1 - NEAR)
-    low, high = (measure_works(drivers, limit, slowing, LONG_RUN, cells).mean for slowing in (middle + NEAR, middle - NEAR))
+    middle = Monotone([flow for flow, _ in flows], [slowing for _, slowing in flows])(cars)
+    for _ in range(MOST_MOVES):
+        middle = min(max(middle, NEAR), 1 - NEAR)
+        low, high = (measure_works(drivers, limit, slowing, LONG_RUN, cells).mean for slowing in (middle + NEAR, middle - NEAR))
+        if low < cars <= high:
+            break
+        middle += 2 * NEAR if cars <= low else -2 * NEAR
+    if not low < cars <= high or high - low > STEEPEST:
+        raise Fault(f"a capacity of {cars:,.0f} cars per hour is out of range: works of {format_km(cells)} km with a limit of {limit * KMH:g} km/h leave "
+                    f"{high:,.0f} cars per hour on this road or, once cars stand before them, at most {low:,.0f}")
     slowing = round(ALWAYS * (middle + NEAR - 2 * NEAR * (cars - low) / (high - low)))
     return Capacity(cars, limit, slowing, slowing)
 

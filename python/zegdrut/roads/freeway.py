@@ -4,7 +4,7 @@ from __future__ import annotations
 import dataclasses
 import math
 from dataclasses import dataclass, field
-from typing import Callable, Iterator, Optional, Sequence, TypeVar
+from typing import Callable, Iterator, Optional, Sequence, TypeVar, Union
 
 from ..program.errors import Fault as Fault
 from .capacity import LIMIT, describe_capacity, find_capacity
@@ -436,8 +436,9 @@ def make_stalled_edits(notes: list[str], figures: Figures, road: Road) -> Iterat
             yield "block", cell, to_steps(car.end), 0
 
 
-Shape = tuple[str, int, int, int, Optional[int], int]
-"""A value on objects over time: kind, first and last index, first step, step after the last (None: it has no end), value."""
+Shape = tuple[str, int, int, int, Optional[int], Union[int, tuple[int, int, int, int]]]
+"""A value on objects over time: kind, first and last index, first step, step after the last (None: it has no end), value. The value of the
+kind `capacity` is the cars per hour, and the limit and the two chances of its zones."""
 
 
 def make_shapes(figures: Figures, road: Road, chances: Chances) -> Iterator[Shape]:
@@ -449,12 +450,16 @@ def make_shapes(figures: Figures, road: Road, chances: Chances) -> Iterator[Shap
             yield "inflow", inlet, inlet, step, changes[place][0] if place < len(changes) else None, chance
     if road.start is not None:
         yield "start", road.entry, road.zones - 1, 0, None, road.start
-    for section in replace_capacities([], figures, road).sections:
+    for section, asked in zip(replace_capacities([], figures, road).sections, figures.sections):
         zones = find_zones(section, road)
         given = {"limit": (section.limit, to_limit), "slow": (section.slowing, to_chance), "start": (section.start, to_chance)}
-        for kind, (value, made) in given.items():
-            if value is not None:
-                yield kind, zones[0], zones[-1], to_steps(section.begin), to_steps(section.end), made(value)
+        found = [(kind, made(value)) for kind, (value, made) in given.items() if value is not None]
+        if asked.capacity is not None:
+            limit, slowing, start = (value for _, value in found)
+            yield "capacity", zones[0], zones[-1], to_steps(section.begin), to_steps(section.end), (round(asked.capacity), limit, slowing, start)
+            continue
+        for kind, value in found:
+            yield kind, zones[0], zones[-1], to_steps(section.begin), to_steps(section.end), value
     for car in figures.stalled:
         yield "block", road.to_cell(car.at), road.to_cell(car.at), to_steps(car.begin), to_steps(car.end), 1
 

@@ -1,11 +1,14 @@
-// Actions: ask what inlets admit, once for each state of the road upstream of them. Demands are in
-// cars per hour; the road has inflow chances.
+// Actions: ask what inlets admit, once for each state of the road upstream of them, and which chances
+// leave a capacity. Demands and capacities are in cars per hour; the road has chances.
 
+import * as messages from "./messages.mjs";
 import {ask} from "./questions.mjs";
-import {notify, store} from "./store.mjs";
+import {layersOf, need, notify, store} from "./store.mjs";
+import {chanceOfDemand} from "./units.mjs";
 
 /** @typedef {import("./layers.mjs").Layers} Layers */
 /** @typedef {import("./types.mjs").Curve} Curve */
+/** @typedef {import("./types.mjs").Shape} Shape */
 /** @typedef {ReturnType<typeof stateOf>} State */
 
 /** Return what the curve of an inlet depends on at a step: the slow-to-start chance that its zone
@@ -84,3 +87,21 @@ export async function measureDemands(road, progress) {
  * @param {number} step
  */
 export const curveSoon = async (road, inlet, step) => entryOf(road, inlet, step);
+
+/** Measure a demand or a capacity. Return its shape with the chances that stand for it (NaN if the
+ * inlet does not admit the demand), or a sentence that says why there are none.
+ * @param {Shape} shape
+ * @param {string} note      of the change
+ * @returns {Promise<Shape | string>}
+ */
+export async function measureShape(shape, note) {
+  const {kind, first, last, from, value, limit, demand = NaN} = shape;
+  if (kind === "inflow") {
+    const curve = await curveSoon(layersOf("mine"), first, from);
+    return curve ? {...shape, value: chanceOfDemand(demand, curve)} : messages.notMeasured(note);
+  }
+  const said = await ask({capacity: {at: need("me").at, first, last, cars: value, limit}},
+    {turn: "last", quiet: ["Failed", "Range"]});
+  if (said && "value" in said) return {...shape, chances: said.value.slice(2)};
+  return said?.refused === "Range" && said.why ? said.why : messages.notMeasured(note);
+}
