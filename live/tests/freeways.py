@@ -44,7 +44,7 @@ class Freeways(Case):
             plan = ada.welcome["plan"].copy()
             plan["replicas"] = ["A"]
             lines = (await ada.ask("layers", at="shared", **{"from": 0}))["layers"]
-            self.assertEqual({line["who"] for line in lines}, {"plan.json"})
+            self.assertEqual({line["who"] for line in lines}, {"road file"})
             self.assertEqual([line["kind"] for line in lines], ["inflow", "limit", "slow", "limit", "capacity", "block"])
             self.assertEqual([one["name"] for one in (await ada.say("seats"))["seats"]], ["Ada"])
         puts = self.of_recipe(server.folder / "plan.json").edits
@@ -252,7 +252,7 @@ class Freeways(Case):
             server.stop()
 
     async def test_a_file_may_have_any_name(self) -> None:
-        """Even if the name is not valid text: its works are named with the characters that can be shown."""
+        """Even if the name is not valid text: then the page shows the characters that it can show."""
         folder = new_folder()
         path = os.fsencode(folder) + b"/r\xff d.json"
         with open(path, "w", encoding="utf-8") as file:
@@ -265,7 +265,7 @@ class Freeways(Case):
             address = await asyncio.get_running_loop().run_in_executor(None, process.stdout.readline)
         async with Seat(address, name="Ada") as ada:
             lines = (await ada.ask("layers", at="shared", **{"from": 0}))["layers"]
-            self.assertEqual({line["who"] for line in lines}, {"r d.json"})
+            self.assertEqual((len(lines), ada.welcome["road"]), (5, "r\ufffd d.json"))
 
     def of_recipe(self, path: Path) -> Any:
         """Return the recipe's road in cells and steps."""

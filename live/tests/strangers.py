@@ -8,6 +8,7 @@ import json
 import shutil
 import time
 import unittest
+from dataclasses import replace
 from pathlib import Path
 from typing import Any
 from unittest import mock
@@ -22,6 +23,7 @@ from server.journal.journal_lines import CannotStart
 from server.journal.naming import Counter
 from server.model.operations import About, Operation, Shape, Stamp, lift, put, undo
 from server.model.reading import Malformed, read_operation
+from server.roads.road_files import NewRoad, share_works
 from server.sites.sites import Sites
 from server.tabs.refusals import Refused
 
@@ -87,6 +89,30 @@ class Sited(Case):
         folder = new_folder() / "copy"
         shutil.copytree(here.folder, folder)
         return folder
+
+
+class Works(Sited):
+    """The shapes of a freeway's file."""
+
+    async def test_a_site_that_joins_with_the_same_file_adds_nothing(self) -> None:
+        """Its file may have another name. What people have changed meanwhile stays."""
+        road = NewRoad(SMALL, [(Shape("inflow", 0, 0, 0, None, 9_000), 500.0), (Shape("block", 60, 60, 30, 90, 1), None)], "a.json")
+        north, _ = await self.here("north")
+        await share_works(north.lab, road)
+        await north.join("Ann")
+        demand, closure = (line["name"] for line in (await north.ask(1, "layers"))["layers"])
+        await north.ask(1, "gesture", key="1", layer=closure, shape=None)
+        await north.ask(1, "gesture", key="2", layer=demand, shape=["inflow", 0, 0, 0, None, 20_000], demand=1_000)
+        await north.share(1)
+        values, lines = await self.in_force(north), (await north.ask(1, "layers", at="shared"))["layers"]
+        south, _ = await self.here("south")
+        await share_works(south.lab, replace(road, name="b.json"))
+        await self.bus.rounds(3)  # a site that hears a different sum twice sends what the other lacks
+        await south.join("Bea")
+        for here in (north, south):
+            self.assertEqual(await self.in_force(here), values)
+            self.assertEqual({(*line["name"], line["who"]) for line in (await here.ask(1, "layers", at="shared"))["layers"]},
+                             {(*line["name"], line["who"]) for line in lines})
 
 
 class Copies(Sited):

@@ -87,10 +87,9 @@ class Lab:
 
     # Operations
 
-    def put_shape(self, by: Author, shape: Shape, demand: float | None = None, is_planned: bool = False) -> Operation:
-        """Put a shape on top of all. `demand` is what an inflow chance stands for, in cars per hour; it `is_planned` if it is the demand
-        of the road's file."""
-        return put(by.count, shape, replace(by.about, more=written_demand(demand, is_planned)))
+    def put_shape(self, by: Author, shape: Shape, demand: float | None = None) -> Operation:
+        """Put a shape on top of all. `demand` is what an inflow chance stands for, in cars per hour."""
+        return put(by.count, shape, replace(by.about, more=written_demand(demand)))
 
     def change_line(self, by: Author, called: StampOrKey, shape: Shape | None, top: bool, demand: float | None = None) -> Operation:
         """Change the shape of a line, or withdraw the line if `shape` is None. It keeps its height unless `top` is true."""

@@ -1,6 +1,7 @@
 """Read the road of a new folder: a plan line, or a freeway in km, which recipes/freeway converts to a plan line and shapes."""
 from __future__ import annotations
 
+import hashlib
 import json
 import os
 import subprocess
@@ -20,12 +21,12 @@ from ..journal.entries import Works
 from ..journal.journal_lines import CannotStart, to_json
 from ..journal.keeper import wait_until_written
 from ..journal.lab import Lab
-from ..model.demands import INFLOW
-from ..model.operations import END, Json, Shape
+from ..model.demands import INFLOW, written_demand
+from ..model.operations import END, About, Json, Shape, put
 from ..model.reading import LONGEST_NAME, Malformed, clean_text, read_shape
-from ..tabs.refusals import Refused
 
 FREEWAY_FILE = "freeway.json"  # the file of a folder with the freeway in km that it began with
+WHO = "road file"  # who made the operations of a freeway's file
 NAME = "road.name"  # the file of a folder with the name of the file that it began with
 FREEWAY = Path(__file__).resolve().parents[3] / "recipes" / "freeway" / "run"
 OF_A_PLAN = {"zones", "inlets"}  # fields of a plan line that no freeway in km has
@@ -34,7 +35,8 @@ DOING = " .."  # the end of a line that reports progress
 
 @dataclass(frozen=True)
 class NewRoad:
-    """A plan line, and the shapes that are shared from the start under `name`; each has the demand that its chance stands for, or None."""
+    """A plan line, and the shapes that are shared from the start; each has the demand that its chance stands for, or None. `name` is that
+    of a freeway's file."""
 
     plan: Mapping[str, Json]
     shapes: Sequence[tuple[Shape, float | None]] = field(default_factory=list)
@@ -155,17 +157,15 @@ def is_another(path: Path, plan: PlanLine, kept: Path) -> bool:
 
 
 async def share_works(lab: Lab, road: NewRoad) -> None:
-    """Put and share the shapes of a freeway's file, from a seat that is freed afterwards."""
+    """Put the shapes of a freeway's file on the shared road. Their operations are the same at all sites that begin with this file, so a
+    site that joins adds nothing."""
     if not road.shapes:
         return
-    index, _ = await lab.seating.join(road.name, "", None)
+    site = f"plan-{hashlib.sha256(json.dumps(road.plan, sort_keys=True).encode()).hexdigest()[:8]}"
     try:
-        for number, (shape, demand) in enumerate(road.shapes):
-            await lab.make(index, {}, f"plan {number}", "", lambda by: lab.put_shape(by, shape, demand, is_planned=demand is not None))
-        await lab.share(index, {}, stamps=None, title="")
-        await wait_until_written(lab.keeper.record(Works(lab.keeper.confirmed)), {})  # every new seat starts with what is shared so far
-        await lab.seating.release_seat(index)
-    except Refused as fault:
-        raise CannotStart(f"{road.name}: {fault.why}") from None
-    finally:
-        lab.seating.leave(index)
+        works = [lab.read(put(count, shape, About(WHO, site=site, more=written_demand(demand, is_planned=demand is not None))).written())
+                 for count, (shape, demand) in enumerate(road.shapes, 1)]
+    except Malformed as fault:
+        raise CannotStart(f"{road.name}: {fault}") from None
+    await lab.receive(works, "", {})
+    await wait_until_written(lab.keeper.record(Works(lab.keeper.confirmed)), {})  # every new seat starts with what is shared so far
