@@ -103,7 +103,8 @@ test("a capacity sets a limit and two chances, and a change may cover each of th
   const capacity = line(stamp(1, ADA), "Ada", ["capacity", 4, 5, 0, null, [900, 2, 9000, 20000]], []);
   capacity.shown = [["limit", 4, 5, 0, null, 2, stamp(2, BEN)], ["slow", 4, 5, 0, null, 9000, null],
                     ["start", 4, 5, 0, null, 20000, null]];
-  capacity.covered = [["capacity", 4, 5, 0, null, [900, 2, 9000, 20000], stamp(2, BEN)]];
+  const covered = (last) => ["capacity", 4, last, 0, null, [900, 2, 9000, 20000], stamp(2, BEN)];
+  capacity.covered = [covered(5), covered(99)];  // another site may send what does not fit the road
   const layers = road(capacity, line(stamp(2, BEN), "Ben", ["limit", 4, 5, 0, null, 3], [[0, null, null]]));
   assert.deepEqual(["limit", "slow", "start"].map((kind) => layers.valueAt(kind, 4, 60)), [3, 9000, 20000]);
   const found = layers.find(nameOf(1, ADA));

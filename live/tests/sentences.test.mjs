@@ -30,7 +30,7 @@ test("values are written with their units", () => {
   assert.equal(text("slow", 16384), "Slowing 25 %");
   assert.equal(text("start", 32768), "Slow to start 50 %");
   assert.equal(text("capacity", 1900, {limit: 2}), "Capacity 1,900 cars/h: limit 54 km/h");
-  assert.equal(text("capacity", 900, {limit: 2, chances: [20316, 20316]}), "Capacity 900 cars/h: limit 54 km/h, slowing 0.31");
+  assert.equal(text("capacity", 900, {limit: 2, chances: [20316, 9000]}), "Capacity 900 cars/h: limit 54 km/h, slowing 0.31");
 });
 
 test("a demand is in cars per hour: what was asked for, otherwise what the inlet admits then", () => {

@@ -129,6 +129,16 @@ test("an edge of a capacity is moved in time at once, and in space once it is me
   assert.deepEqual(gestures.at(-1).shape, ["capacity", 4, 6, 60, null, [900, 2, 19000, 19001]]);
 });
 
+test("a capacity with another limit is changed, and one with the same values is not", async () => {
+  const old = {name: {count: 1, hash: "h"}, shape: {...WORKS, chances: [20316, 20317]}};
+  applyArea(areaOfShape(WORKS, old));
+  await measured({value: [900, 2, 20316, 20317]});
+  assert.deepEqual([gestures.length, /it is so already/.test(store.message[0])], [0, true]);
+  applyArea(areaOfShape({...WORKS, limit: 3}, old));
+  await measured({value: [900, 3, 30000, 30001]});
+  assert.deepEqual(gestures.at(-1).shape, ["capacity", 4, 5, 60, null, [900, 3, 30000, 30001]]);
+});
+
 test("the same command twice is one while it is pending", async () => {
   store.connection.ask = (command) => { gestures.push(command); return new Promise(() => {}); };
   for (let turn = 0; turn < 3; turn++) applyArea(areaOfShape({kind: "block", first: 3, last: 5, from: 60, to: 90, value: 1}));
