@@ -85,6 +85,16 @@ class Frames(Case):
             self.assertIn(b" 404 ", await reader.readline(), path)
             writer.close()
 
+    async def test_a_connection_has_one_request(self) -> None:
+        """Then the limit of new connections holds for requests, too."""
+        for path, status in (("/", 200), ("/live", 403), ("/nothing", 404)):
+            reader, writer = await asyncio.open_connection("127.0.0.1", int(self.base.rpartition(":")[2]))
+            writer.write(2 * f"GET {path} HTTP/1.1\r\nHost: {self.base[7:]}\r\n\r\n".encode())
+            said = await asyncio.wait_for(reader.read(), PATIENCE)  # until the server closes it
+            self.assertTrue(said.startswith(f"HTTP/1.1 {status} ".encode()), said[:40])
+            self.assertEqual((said.count(b"HTTP/1.1 "), said.lower().count(b"connection: close")), (1, 1), path)
+            writer.close()
+
     async def test_the_page_may_load_nothing_from_elsewhere(self) -> None:
         async with self.session.get(self.base + "/viewer/drawing.js") as one, self.session.get(self.base + "/") as other:
             for reply in (one, other):

@@ -23,6 +23,7 @@ class Page:
         app = web.Application()
         app.add_routes([web.get("/", self._file), web.get("/live", self._live), web.get("/{name}", self._file),
                         web.get("/page/{part}", self._file), web.get("/viewer/{drawing}", self._file)])
+        app.on_response_prepare.append(close_connection)
         return app
 
     def _check(self, request: web.Request) -> str:
@@ -53,6 +54,13 @@ class Page:
         return {"Content-Security-Policy": "; ".join(" ".join(part) for part in policy.items()),
                 "Referrer-Policy": "no-referrer", "X-Content-Type-Options": "nosniff", "Cache-Control": "no-store",
                 "Cross-Origin-Opener-Policy": "same-origin", "Cross-Origin-Resource-Policy": "same-origin"}
+
+
+async def close_connection(_: web.Request, response: web.StreamResponse) -> None:
+    """Close a connection after its request, unless it becomes a tab: the limit of new connections is then one of requests, too."""
+    if not isinstance(response, web.WebSocketResponse):
+        response.force_close()
+        response.headers["Connection"] = "close"
 
 
 def file_of(name: str = "", part: str = "", drawing: str = "") -> Path | None:
