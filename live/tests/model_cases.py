@@ -230,6 +230,16 @@ class Cases(unittest.TestCase):
         taken_back = undo(4, bens, BEN)
         self.assertEqual(choices.shareable(road.adding([taken_back]), shared.adding([taken_back]), made_by(road, ADA)), [adas])
 
+    def test_what_has_an_effect_only_beside_an_exclusion_is_shared_with_it(self) -> None:
+        """Ben withdrew Cleo's closure. Ada excludes his site, so that the closure is there again, and undoes the closure."""
+        closure = put(1, SHAPE, CLEO)
+        shared = EMPTY.adding([closure])
+        shared = shared.adding([change(shared, 2, closure.stamp, None, about=BEN)])
+        some = [exclude(3, BEN.site, True, ADA), undo(4, closure, ADA)]
+        road = shared.adding(some)
+        self.assertEqual(choices.shareable(road, shared, made_by(road, ADA)), some)
+        self.assertEqual((road.layers, shared.adding(some[:1]).layers.keys()), ({}, {closure.stamp}))
+
     def test_an_undo_of_what_others_never_had_is_not_shared_and_neither_is_its_redo(self) -> None:
         change_of_it = change(BASE, 2, LINE, None, about=ADA)
         back = undo(3, change_of_it, ADA)

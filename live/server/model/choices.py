@@ -75,15 +75,17 @@ def private(road: Road, shared: Road, own: Collection[Operation]) -> list[Operat
 
 
 def shareable(road: Road, shared: Road, own: Collection[Operation], then: Road | None = None) -> list[Operation]:
-    """Return the private operations that count and would change the shared road, and those of an excluded site: what they would change is
-    known only when it is included again. Leave out undos of private operations. `then` is the shared road with all private operations,
-    if that is known."""
+    """Return the private operations that count and would change the shared road, perhaps only together with an exclusion among them, and
+    those of an excluded site: what they would change is known only when it is included again. Leave out undos of private operations.
+    `then` is the shared road with all private operations, if that is known."""
     some, out = sendable(road, shared, own), shared.operations.excluded
     then = then or shared.adding(some)
     lines, excluded = changed_layers(shared, then), then.operations.excluded ^ out
     roots = [(one, road.operations.root_of(one)) for one in some]
-    return [one for one, root in roots if one.site in out or root.line in lines
-            or root.excludes is not None and root.excludes[0] in excluded]
+    excluding = [one for one, root in roots if root.excludes is not None and root.excludes[0] in excluded]
+    if excluding:
+        lines |= changed_layers(shared.adding(excluding), then)
+    return [one for one, root in roots if one.site in out or root.line in lines or one in excluding]
 
 
 def sendable(road: Road, shared: Road, own: Collection[Operation], stamps: AbstractSet[Stamp] | None = None) -> list[Operation]:
