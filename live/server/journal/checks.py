@@ -2,7 +2,7 @@
 from __future__ import annotations
 
 from ..model.layers import values_of
-from ..model.operations import SEATS, Json, Operation
+from ..model.operations import CAPACITY, SEATS, Json, Operation
 from ..model.reading import Malformed, read_operation
 
 from zegdrut.program.grammar import KINDS, LAST_STEP
@@ -31,7 +31,7 @@ class Checks:
 
     def _check_edit(self, kind: str, index: int, step: int, value: int) -> None:
         if kind not in KINDS:
-            raise Malformed(f"there is no kind {kind!r}: use one of {', '.join(sorted(KINDS))}")
+            raise Malformed(f"there is no kind {kind!r}: use one of {', '.join(sorted({CAPACITY, *KINDS}))}")
         fault = self._reasons.edit_fault((kind, index, step, 1, SEATS, value))
         if fault:
             refusal, why = fault

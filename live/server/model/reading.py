@@ -180,7 +180,7 @@ def read_row(value: Json, size: int, why: str) -> Sequence[Json]:
 def whole(value: Json, most: int, what: str) -> int:
     """Return a whole number from 0 to `most`. Raise `Malformed` if it is not one; `what` says what it is."""
     if type(value) is not int or not 0 <= value <= most:
-        raise Malformed(f"{what} {str(value)[:40]} is not a whole number from 0 to {most}")
+        raise Malformed(f"{what} {value!r:.40} is not a whole number from 0 to {most}")
     return intern_int(value)
 
 
