@@ -2,7 +2,7 @@
 
 import {MOST_OBJECTS, isTooLate} from "./geometry.mjs";
 import * as messages from "./messages.mjs";
-import {placesText, shapeText, takenZonesText, valueText} from "./sentences.mjs";
+import {placesText, shapeText, takenZonesText, valueText} from "./shapetexts.mjs";
 import {need, layersOf, store} from "./store.mjs";
 import {LAST_STEP, chanceText, kmText, limitText} from "./units.mjs";
 

@@ -1,7 +1,7 @@
 // View: the lists of changes (not shared yet, shared), and the news of what others shared.
 
 import {openPreview, putAgain, putOnTop, redoNewest, refreshLists, shareAll, take, undoNewest, withdraw}
-  from "./gestures.mjs";
+  from "./changeactions.mjs";
 import {countCurves} from "./area.mjs";
 import {next} from "./changes.mjs";
 import {dropWaiting, editInForm} from "./draft.mjs";

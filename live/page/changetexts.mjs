@@ -2,7 +2,7 @@
 // `layers` belong to the road that is shown; `seat` reads it.
 
 import {isCovered, lastOf, lostOf, privateOf} from "./layers.mjs";
-import {THINGS, placesText, shapeText, thingText} from "./sentences.mjs";
+import {THINGS, placesText, shapeText, thingText} from "./shapetexts.mjs";
 import {byStamp, keyOf} from "./stamps.mjs";
 
 /** @typedef {import("./layers.mjs").Layers} Layers */

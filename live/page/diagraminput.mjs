@@ -2,7 +2,7 @@
 // at the pointer or the cursor.
 
 import {cellAt, rowAt, stepAt} from "../../viewer/drawing.mjs";
-import {redoNewest, undoNewest} from "./gestures.mjs";
+import {redoNewest, undoNewest} from "./changeactions.mjs";
 import {areaOfShape} from "./area.mjs";
 import {applyArea, beginCorner, beginDrag, chooseTool, dropArea, endDrag, hasMoved, moveCursor,
         noteClick, readPlace, showArea, showDrawn, useLetters} from "./draft.mjs";

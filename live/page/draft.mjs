@@ -1,6 +1,6 @@
 // Actions: the tool, the rectangle that is drawn, the cursor, and the form for typed values.
 
-import {put, refreshLists} from "./gestures.mjs";
+import {put, refreshLists} from "./changeactions.mjs";
 import {areaOfShape, isUnmeasured} from "./area.mjs";
 import {assign} from "./assign.mjs";
 import {measureShape} from "./measurements.mjs";

@@ -8,7 +8,7 @@ import {figureTable, wordsOf} from "./figuretable.mjs";
 import {countTrapped} from "./layers.mjs";
 import {setOpen} from "./navigation.mjs";
 import * as messages from "./messages.mjs";
-import {placesText} from "./sentences.mjs";
+import {placesText} from "./shapetexts.mjs";
 import {BOTH, need, layersOf, roadOf, store, watch, whoseShown} from "./store.mjs";
 import {HOUR, KMH_A_CELL, kmText, signedText, sum} from "./units.mjs";
 import {everyShown} from "./view.mjs";

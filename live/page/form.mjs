@@ -5,7 +5,7 @@ import {applyForm, chooseTool, editInForm, followChangeInForm, writeField} from 
 import {$, childrenOf, choose, chosen, on, oneOf} from "./elements.mjs";
 import {demandText} from "./formvalues.mjs";
 import {OF_ONE} from "./geometry.mjs";
-import {zonesText} from "./sentences.mjs";
+import {zonesText} from "./shapetexts.mjs";
 import {need, store, watch} from "./store.mjs";
 import {kmText, limitText} from "./units.mjs";
 

@@ -1,7 +1,7 @@
 // View: who is here, the connection, the clock, messages and faults; and the question for a name.
 
 import {$, button, childrenOf, closest, element, on, showList} from "./elements.mjs";
-import {excludeSite} from "./gestures.mjs";
+import {excludeSite} from "./changeactions.mjs";
 import {changeSeat, chooseSeat, closeNote, join} from "./session.mjs";
 import {backToClock, setFollowing, lookAhead, runAnHour, setRate} from "./navigation.mjs";
 import * as messages from "./messages.mjs";

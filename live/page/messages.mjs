@@ -1,5 +1,5 @@
 // All sentences in which the page says that something is wrong, refused, done or under way: what it
-// is, where, and what to do. What changes are called is in sentences.mjs.
+// is, where, and what to do. What changes are called is in shapetexts.mjs.
 
 import {plural, whole} from "./units.mjs";
 

@@ -13,7 +13,7 @@ import {finishDrawing, requestDrawing} from "./loader.mjs";
 import {cellsOf} from "./geometry.mjs";
 import {dropDuplicates, placeOfLabel} from "./labels.mjs";
 import {SPANS, chooseSpan, paintBy, setPlotSize, showRoad, showWholeRoad, zoomBy} from "./navigation.mjs";
-import {valueText} from "./sentences.mjs";
+import {valueText} from "./shapetexts.mjs";
 import {keyOf} from "./stamps.mjs";
 import {isOwn, last, layersShown, need, now, roadOf, store, watch, whoseShown} from "./store.mjs";
 import {HOUR, KMH_A_CELL, LAST_STEP, METRES_A_CELL, whole} from "./units.mjs";

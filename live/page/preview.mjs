@@ -1,7 +1,7 @@
 // View: what sharing or taking would change, before it is done. Picture, sentences and table describe
 // the same two roads: before, and after.
 
-import {EMPTY_OUTCOME, closePreview, confirmPreview} from "./gestures.mjs";
+import {EMPTY_OUTCOME, closePreview, confirmPreview} from "./changeactions.mjs";
 import {freshOf, untaken, words} from "./changes.mjs";
 import {$, activeIn, button, element, findElement} from "./elements.mjs";
 import {figureTable, wordsOf} from "./figuretable.mjs";

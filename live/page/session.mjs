@@ -2,7 +2,7 @@
 
 import {assign} from "./assign.mjs";
 import {refreshDiagram} from "./navigation.mjs";
-import {askPreview, restorePending, persistPending, refreshChanges, send} from "./gestures.mjs";
+import {askPreview, restorePending, persistPending, refreshChanges, send} from "./changeactions.mjs";
 import {untaken} from "./changes.mjs";
 import {hearDays} from "./comparison.mjs";
 import {curveAt} from "./measurements.mjs";

@@ -17,7 +17,7 @@ from server.tabs.fields import CommandFields
 from server.tabs.refusals import NAMES, OF_THE_FORMAT, Refused
 from server.model.operations import About, Shape, put
 from server.roads.screen import rows_of
-from server.sites.floods import Floods
+from server.sites.message_limits import Floods
 from server.sites.sites import Sites
 
 JUNK: list[Any] = [None, True, -1, 0, 1, 5, 119, 1 << 20, 1 << 48, 10 ** 30, 0.5, "", "block", "k", "shared", "before", "x" * 300, [], {},
@@ -71,7 +71,7 @@ class Bounds(Case):
         now = [0.0]
         await bus.rounds()
         await two.join("Ben")
-        with mock.patch.multiple("server.sites.floods", MESSAGE_BURST=20, MESSAGES_PER_SECOND=1, WORK=0):
+        with mock.patch.multiple("server.sites.message_limits", MESSAGE_BURST=20, MESSAGES_PER_SECOND=1, WORK=0):
             first._floods = Floods(lambda: now[0])
             for step in range(30):
                 await two.put(1, ["limit", 2, step, 3])

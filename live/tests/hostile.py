@@ -19,7 +19,7 @@ from server.tabs import verbs
 from server.tabs.fields import CommandFields
 from server.tabs.refusals import Refused
 from server.shell.client import Seat
-from server.tabs.doors import Strangers, address_group
+from server.tabs.new_connections import Strangers, address_group
 from server.tabs.tabs import Tab, parse_frame
 from running import PATIENCE, SMALL, Case, Server, end, started, transport_of, until
 from working import takes_at_most

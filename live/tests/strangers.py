@@ -16,14 +16,14 @@ from unittest import mock
 from faulty import Bus, Disk, Here, Message, message_of, told
 from running import SMALL, Case, new_folder
 from server.sites import peers, seals
-from server.sites.floods import Floods
+from server.sites.message_limits import Floods
 from server.sites.peers import Peers
 from server.shell.new_site import move_to_new_site
 from server.journal.journal_lines import CannotStart
 from server.journal.naming import Counter
 from server.model.operations import About, Operation, Shape, Stamp, lift, put, undo
 from server.model.reading import Malformed, read_operation
-from server.roads.road_files import NewRoad, share_works
+from server.roads.new_road import NewRoad, share_works
 from server.sites.sites import Sites
 from server.tabs.refusals import Refused
 
@@ -602,7 +602,7 @@ class Keys(Case):
         """It costs the event loop nothing, and sealed messages are heard."""
         now = [0.0]
         await self.bus.rounds()
-        with mock.patch("server.sites.floods.MESSAGE_BURST", 20), mock.patch("server.sites.floods.MESSAGES_PER_SECOND", 1):
+        with mock.patch("server.sites.message_limits.MESSAGE_BURST", 20), mock.patch("server.sites.message_limits.MESSAGES_PER_SECOND", 1):
             self.second._floods = Floods(lambda: now[0])
             said: list[str] = []
             with mock.patch.object(self.second, "_say", said.append):
@@ -622,7 +622,7 @@ class Keys(Case):
         bus, now, came = Bus(), [0.0], list[str]()
         site, _ = bus.site(here), bus.site(self.one)
         await bus.rounds()
-        with mock.patch("server.sites.floods.MESSAGE_BURST", 20), mock.patch("server.sites.floods.MESSAGES_PER_SECOND", 1):
+        with mock.patch("server.sites.message_limits.MESSAGE_BURST", 20), mock.patch("server.sites.message_limits.MESSAGES_PER_SECOND", 1):
             site._floods = Floods(lambda: now[0])
             with mock.patch.object(Sites, "_receive", lambda _, topic, run, body: came_in(run)):
                 async def came_in(run: str) -> None:
@@ -673,7 +673,7 @@ class Keys(Case):
         await self.share(50)
         message = next(one for one in self.bus.seen if one.topic.endswith("/operations"))
         run = json.loads(message.payload.partition(b"\n")[0])["run"]
-        with mock.patch("server.sites.floods.MESSAGE_BURST", 20), mock.patch("server.sites.floods.MESSAGES_PER_SECOND", 1):
+        with mock.patch("server.sites.message_limits.MESSAGE_BURST", 20), mock.patch("server.sites.message_limits.MESSAGES_PER_SECOND", 1):
             self.second._floods = Floods()
             with mock.patch.object(self.second._lab, "read", side_effect=AssertionError):
                 for _ in range(200):
@@ -700,7 +700,7 @@ class Keys(Case):
 
         async def receive(run: str, _: Any) -> None:
             read.append(run)
-        with mock.patch.multiple("server.sites.floods", MESSAGE_BURST=20, MESSAGES_PER_SECOND=1, WORK=0), \
+        with mock.patch.multiple("server.sites.message_limits", MESSAGE_BURST=20, MESSAGES_PER_SECOND=1, WORK=0), \
                 mock.patch.object(self.second, "_receive_hash", receive):
             self.second._floods = Floods()
             for _ in range(100):
@@ -731,7 +731,7 @@ class Keys(Case):
 
     async def test_a_flood_of_new_messages_is_its_senders_own(self) -> None:
         await self.bus.rounds()
-        with mock.patch("server.sites.floods.MESSAGE_BURST", 5), mock.patch("server.sites.floods.MESSAGES_PER_SECOND", 0):
+        with mock.patch("server.sites.message_limits.MESSAGE_BURST", 5), mock.patch("server.sites.message_limits.MESSAGES_PER_SECOND", 0):
             self.second._floods = Floods()
             for step in range(20):
                 await self.share(step)

@@ -11,7 +11,7 @@ import weakref
 from typing import AbstractSet, Callable, Iterable
 
 from .layers import Layer, Stretch, parts_of, sort_from_top, touches
-from .operation_set import NO_OPERATIONS, OperationSet, insert_in_order
+from .active_operations import NO_OPERATIONS, OperationSet, insert_in_order
 from .operations import END, NOTHING, About, Operation, Shape, Stamp, Unreadable, lift, named
 
 Plan = Callable[[str, int], "int | None"]

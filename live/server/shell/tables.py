@@ -20,7 +20,7 @@ from zegdrut.roads.units import KMH, to_km
 from ..journal.journal_lines import JOURNAL, CannotStart, Entries, to_json
 from ..journal.state import NO_PLAN, State
 from ..model.operations import Json, Operation, Shape, Stamp, Unreadable, describe_act
-from ..roads import road_files
+from ..roads import new_road
 
 Row = tuple["int | float | str | None", ...]
 SCHEMA = """
@@ -71,7 +71,7 @@ def read_folder(folder: Path) -> Tables:
     held = dict.fromkeys([*state.shared.places, *(one for seat in state.seats for one in seat.own)])
     operations = [HeldOperation(one, one in state.shared.places, state.makers.get(one)) for one in held if not isinstance(one, Unreadable)]
     seats = [(seat.index, seat.name, len(seat.shareable())) for seat in state.seats[1:] if seat.key]
-    return Tables(state.plan, road_files.clock_of(folder) or Clock(), operations, seats,
+    return Tables(state.plan, new_road.clock_of(folder) or Clock(), operations, seats,
                   [share_row(one.reply_fields()) for one in state.shares])
 
 

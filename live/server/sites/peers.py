@@ -6,7 +6,7 @@ from typing import AbstractSet, Iterator, NamedTuple, Sequence, TypedDict
 
 from ..journal.keeper import Keeper
 from ..journal.state import SITE_FORM
-from .floods import drop_oldest
+from .message_limits import drop_oldest
 
 ANNOUNCE_EVERY = 3.0  # seconds between two announcements
 HEARD = 4 * ANNOUNCE_EVERY  # seconds without an announcement after which a server counts as gone

@@ -31,7 +31,7 @@ from ..model.road import Road
 from ..roads.program import Times
 from ..tabs.refusals import Refused
 from .brokers import HEADER, LONGEST_MESSAGE, broker_of, explain_refusal, keep_connected, longest_packet, new_client
-from .floods import ANNOUNCEMENTS, FLOOD, REPEATS, STRANGERS, UNSEALED, Floods, drop_oldest
+from .message_limits import ANNOUNCEMENTS, FLOOD, REPEATS, STRANGERS, UNSEALED, Floods, drop_oldest
 from .messages import InvalidMessage, form_of, read_message, site_of, sum_of
 from .peers import ANNOUNCE_EVERY, BrokerState, Peers, Site
 from .seals import Seal, Unsealed, key_of, road_of

@@ -32,7 +32,7 @@ from ..model.road import Road
 from ..model.visibility import visible_rectangles
 from ..roads import rows
 from ..roads.program import LONG_ROAD, Times
-from ..roads.road_files import clock_of, name_of
+from ..roads.new_road import clock_of, name_of
 from ..roads.previews import SIDES, Preview, PreviewRoad, Previews
 from ..roads.roads import QueryRoad, ReplicaRoad
 from ..roads.screen import first_step, rows_of

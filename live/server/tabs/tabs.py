@@ -27,10 +27,10 @@ from ..journal.road_clock import STEPS_AHEAD
 from ..journal.state import TAB_FORM
 from ..model.operations import Json
 from ..model.reading import LONGEST_NAME
-from ..roads import road_files
+from ..roads import new_road
 from ..roads.program import Times
 from . import verbs
-from .doors import is_token
+from .new_connections import is_token
 from .fields import CommandFields
 from .questions import MOST_BYTES, MOST_ROWS, Questions, Reply
 from .refusals import Refused, not_a_command
@@ -273,12 +273,12 @@ class Tabs:
                 "time": round(time.time(), 3),
                 "most": {"rows": MOST_ROWS, "bytes": MOST_BYTES,
                          "days": self.lab.keeper.settings.days}, "broker": self.broker(),
-                "trouble": self._trouble, "standing": self._standing, "day": self._day(), "demand_end": road_files.find_profile_end(self.lab.keeper.folder),
-                "road": road_files.name_of(self.lab.keeper.folder), "figures": list_heads(state.plan)}
+                "trouble": self._trouble, "standing": self._standing, "day": self._day(), "demand_end": new_road.find_profile_end(self.lab.keeper.folder),
+                "road": new_road.name_of(self.lab.keeper.folder), "figures": list_heads(state.plan)}
 
     def _day(self) -> Mapping[str, int | str | None]:
         """Return the time of day at step 0 in seconds after midnight, the date and the time zone, as far as they are known."""
-        clock = road_files.clock_of(self.lab.keeper.folder)
+        clock = new_road.clock_of(self.lab.keeper.folder)
         if clock is None:
             return {"begin": None, "date": None, "zone": None}
         date, zone = (None if one is None else str(one) for one in (clock.date, clock.zone))

@@ -6,7 +6,7 @@ import {test} from "node:test";
 
 import {DayClock} from "../page/dayclock.mjs";
 import {decodeChange, decodeShape} from "../page/decoding.mjs";
-import {placesText, shapeText, takenZonesText, thingText, valueText} from "../page/sentences.mjs";
+import {placesText, shapeText, takenZonesText, thingText, valueText} from "../page/shapetexts.mjs";
 
 const PLAN = JSON.parse(readFileSync(new URL("../plan.json", import.meta.url), "utf8"));
 // With a chance of 0.588, inlet 0 admits 1,500 cars per hour, and 1,250 from step 600 on. Inlet 1 is being measured.
