@@ -13,12 +13,13 @@ from typing import Awaitable, Callable, Iterator, Sequence, TypedDict
 from zegdrut.figures import Value, compare, measure_day
 from zegdrut.figures.days import SEEDS
 from zegdrut.figures.simulation import iterate_days
+from zegdrut.figures.table import list_shown
 from zegdrut.figures.trips import Window
 from zegdrut.reports.report import run_side
 
 from ..tabs.refusals import Refused
 from . import child
-from .figures import Row, TwoRoads, list_of_live, sides_of, write_rows
+from .figures import Row, TwoRoads, sides_of, write_rows
 
 NICE = 10
 DaysQuestion = TypedDict("DaysQuestion", {"roads": TwoRoads, "days": int})
@@ -84,7 +85,7 @@ class Comparisons:
 def simulate_days(asked: DaysQuestion) -> Iterator[DaysAnswer]:
     """Simulate both roads with each seed, on all processors but one. Yield the figures after each day."""
     roads, days = asked["roads"], list[Sequence[Value]]()
-    window, figures, sides = Window(roads["first"], roads["last"]), list_of_live(roads["plan"]), sides_of(roads)
+    window, figures, sides = Window(roads["first"], roads["last"]), list_shown("live", roads["plan"]), sides_of(roads)
 
     def make_day(seed: int) -> Sequence[Value]:
         ctypes.CDLL(None).prctl(1, signal.SIGKILL)  # PR_SET_PDEATHSIG: this process is killed as soon as the one that started it has ended

@@ -12,9 +12,10 @@ from collections import OrderedDict
 from typing import Iterator, Mapping, Sequence, TypedDict
 
 from zegdrut import Edit, RoadLab
-from zegdrut.figures import Figure, FigureRow, RoadRun, compare, list_figures, measure_day
+from zegdrut.figures import Figure, FigureRow, RoadRun, compare, measure_day
 from zegdrut.figures.lost import AskedRates, compute_demands
 from zegdrut.figures.queues import is_of_free_road, with_lost
+from zegdrut.figures.table import list_shown
 from zegdrut.figures.simulation import read_counts
 from zegdrut.figures.trips import DetectorCount, Trips, Window, compute_travel_times_by_entry, count_seconds_on
 from zegdrut.program.scripts import Script
@@ -28,8 +29,6 @@ from ..roads.program import import_lines
 from ..roads.screen import first_step, rows_of
 from . import child
 
-KEYS = ("delay", "delay at", "hours", "demand", "demand at", "admitted", "admitted at", "lost", "lost at", "travel", "cars", "flow", "speed", "on")
-"""The figures that live has; the table has their order."""
 SECONDS = 60.0  # seconds for a question; the next one resumes where this one stopped
 STEPS_AT_ONCE = 1_920  # steps that are read at a time
 MOST_FIGURE_ROADS = 12  # roads that are kept
@@ -60,11 +59,6 @@ FiguresAnswer = TypedDict("FiguresAnswer", {"done": int, "figures": Sequence[Row
 """The figures of two roads and their travel times; or in `done` the step up to which the roads have been read."""
 
 
-def list_of_live(plan: PlanLine) -> list[Figure]:
-    """Return the figures that live has of a road."""
-    return [figure for figure in list_figures(plan) if figure.key in KEYS]
-
-
 def write_head(figure: Figure) -> Head:
     """Return a figure in the form of a reply."""
     return {"key": figure.key, "of": list(figure.of), "label": figure.label, "unit": figure.unit, "title": figure.title, "digits": figure.digits}
@@ -72,7 +66,7 @@ def write_head(figure: Figure) -> Head:
 
 def list_heads(plan: PlanLine) -> list[Head]:
     """Return the figures that live has of a road in the form of a welcome."""
-    return [write_head(figure) for figure in list_of_live(plan)]
+    return [write_head(figure) for figure in list_shown("live", plan)]
 
 
 def write_rows(rows: Sequence[FigureRow], roads: TwoRoads) -> list[Row]:
@@ -196,7 +190,7 @@ class Roads:
             yield {"done": done}
             return
         before, after = (road.run_of(side, window) for road, side in zip(roads, sides_of(both)))
-        figures = list_of_live(both["plan"])
+        figures = list_shown("live", both["plan"])
         yield {"figures": write_rows(compare(figures, [measure_day(figures, before, after)]), both),
                "entries": {"before": times_by_entry(before), "after": times_by_entry(after)}}
 

@@ -22,17 +22,16 @@ from ..program.scripts import Script, check_same_road
 from ..program.wire import PlanLine
 from ..roads.demand import Drivers
 from ..roads.units import Units
-from .queues import (BEFORE_KEYS, EditedRoad, Waits, explain_growing, explain_outflow, find_growing, find_inlets, is_shown, read_roads,
+from .queues import (EditedRoad, Waits, explain_growing, explain_outflow, find_growing, find_inlets, is_shown, read_roads,
                      run_day as run_with_queue, with_bounds)
 from .simulation import RoadRun, simulate_days
-from .table import Figure, FigureRow, Value, compare, list_figures, measure_day
+from .table import Figure, FigureRow, Value, compare, list_shown, measure_day
 from .trips import Window
 
 SEEDS = 1 << 64
 DAYS = range(2, 1_001)
 NAMES = ("run before", "run after")
 ROADS = ("before", "after")
-KEYS = ("hours", *BEFORE_KEYS, "through", "entered", "cars")
 
 
 class Days(NamedTuple):
@@ -86,14 +85,9 @@ def run_over_days(before: Script, after: Script, days: int, at: str | None = Non
         found = simulate_days(functools.partial(make_day, plan, units, roads, has_queue), seeds, progress or bar.show, executor=executor, ship=ship)
     finally:
         bar.end()
-    waits, figures = [one for _, one in found], list_days_figures(plan, units)
+    waits, figures = [one for _, one in found], list_shown("delay", plan, units)
     shown = [is_shown(figure, find_inlets(waits), units) for figure in figures]
     return Days(list(compress(figures, shown)), seeds, [list(compress(values, shown)) for values, _ in found], waits, roads[0].drivers)
-
-
-def list_days_figures(plan: PlanLine, units: Units) -> list[Figure]:
-    """Return the figures of days at the detectors of a plan, with those of all queues."""
-    return [figure for figure in list_figures(plan, units) if figure.key in KEYS]
 
 
 def make_day(plan: PlanLine, units: Units, roads: Sequence[EditedRoad], has_queue: bool, seed: int) -> tuple[list[Value], list[Waits]]:
@@ -103,4 +97,4 @@ def make_day(plan: PlanLine, units: Units, roads: Sequence[EditedRoad], has_queu
         return run_with_queue(road.script.with_seed(seed), road.free.with_seed(seed) if has_queue else None, Window(units.begin, road.last), (), detectors,
                               with_passings=False, seconds=units.seconds or 1.0, origin=units.origin)
     runs = list(map(run_road, roads))
-    return measure_day(list_days_figures(plan, units), *runs), list(map(Waits.of, runs))
+    return measure_day(list_shown("delay", plan, units), *runs), list(map(Waits.of, runs))

@@ -27,8 +27,6 @@ from .trips import Window, entry_inlet, entry_step
 
 WAITING_KEYS = ("wait", "wait queue", "wait end")
 """The figures of cars that wait before the road, which are shown if cars wait."""
-BEFORE_KEYS = ("approach hours", *WAITING_KEYS, "all hours")
-"""The figures of cars before the road, on its approach or waiting, and all vehicle hours."""
 GROWING_KEYS = ("delay", "together", "all hours", *WAITING_KEYS)
 """The figures that are too small if cars still wait in the last row."""
 

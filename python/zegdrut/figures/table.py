@@ -74,6 +74,19 @@ class Figure:
 
 # The table
 
+SHOWN = {
+    "delay": ("hours", "approach hours", "wait", "wait queue", "wait end", "all hours", "through", "entered", "cars"),
+    "report": ("delay", "delay at", "hours", "approach hours", "wait", "wait queue", "wait end", "all hours", "demand", "admitted", "lost", "travel",
+               "flow", "speed"),
+    "live": ("delay", "delay at", "hours", "demand", "demand at", "admitted", "admitted at", "lost", "lost at", "travel", "cars", "flow", "speed", "on")}
+"""The keys of the figures that a page can show."""
+
+
+def list_shown(page: Literal["delay", "report", "live"], plan: PlanLine, units: Units = FREEWAY) -> list[Figure]:
+    """Return the figures of a road that a page can show, in the order of the table."""
+    return [figure for figure in list_figures(plan, units) if figure.key in SHOWN[page]]
+
+
 def list_figures(plan: PlanLine, units: Units = FREEWAY) -> list[Figure]:
     """Return all figures of a road, in the order in which they are shown."""
     places = [units.place(cell) for cell in plan["detectors"]]

@@ -12,9 +12,9 @@ from dataclasses import dataclass
 from typing import Callable, Sequence
 
 from ..figures.intervals import average_known
-from ..figures.queues import BEFORE_KEYS, Waits, average_lost, find_inlets, is_shown, run_day, with_bounds, with_lost
+from ..figures.queues import Waits, average_lost, find_inlets, is_shown, run_day, with_bounds, with_lost
 from ..figures.simulation import RoadRun, simulate_days, split_window
-from ..figures.table import FREEWAY, FigureRow, Mean, average_days, compare, list_figures, measure_day
+from ..figures.table import FREEWAY, FigureRow, Mean, average_days, compare, list_shown, measure_day
 from ..figures.trips import Window
 from ..program.scripts import Script
 from ..program.wire import Record
@@ -25,7 +25,6 @@ MOST_SIDES = 4
 """The most roads of a report."""
 PERIOD = 300
 """The seconds of a point of the charts."""
-KEYS = ("delay", "delay at", "hours", "demand", "admitted", "lost", "travel", "flow", "speed")
 
 
 @dataclass(frozen=True)
@@ -75,7 +74,7 @@ def make_tables(sides: Sequence[Side], days: Sequence[Sequence[RoadRun]], window
     waits = [list(map(Waits.of, runs)) for runs in days]
     inlets = find_inlets(waits)
     units = sides[0].units
-    figures = [figure for figure in list_figures(sides[0].script.plan, units) if figure.key in (*KEYS, *BEFORE_KEYS) and is_shown(figure, inlets, units)
+    figures = [figure for figure in list_shown("report", sides[0].script.plan, units) if is_shown(figure, inlets, units)
                and (figure.of_change is None or len(sides) > 1)]
     pairs = [[0, place] for place in range(1, len(sides))] or [[0]]
     tables = []
