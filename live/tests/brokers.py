@@ -25,7 +25,7 @@ from running import SMALL, Broker, Case, Server, end, new_folder, started, until
 from server.journal.entries import read_plan_line
 
 TOTALS = {"from": 0, "to": 100}
-TURNS = 6  # at most, to find out how long a gesture takes
+TURNS = 10  # at most, until no other program disturbs the measurement
 USUAL = 0.004  # seconds that a gesture takes on a machine that has nothing else to do
 # Publishes the messages of a file again and again, each with its topic.
 FLOOD = """
@@ -348,10 +348,11 @@ class Floods(Case):
         async with self.one.seat("Ada") as ada:
             for what, messages, most in floods:
                 elsewhere = [("elsewhere", payload) for _, payload in messages]
-                slower = max(1.0, await self.median(ada, elsewhere, most) / USUAL)  # than a machine that has nothing else to do
-                rate, quiet, loud = max(1, round(most / slower)), math.inf, math.inf
+                quiet = loud = math.inf
                 for _ in range(TURNS):
-                    quiet, loud = min(quiet, await self.median(ada, elsewhere, rate)), min(loud, await self.median(ada, messages, rate))
+                    slower = max(1.0, await self.median(ada, elsewhere, most) / USUAL)  # than a machine that has nothing else to do
+                    rate = max(1, round(most / slower))
+                    quiet, loud = await self.median(ada, elsewhere, rate), await self.median(ada, messages, rate)
                     if loud <= 2 * quiet:
                         break
                 self.assertLessEqual(loud, 2 * quiet, f"{what}: {1e3 * loud:.1f} ms instead of {1e3 * quiet:.1f} ms")

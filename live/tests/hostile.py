@@ -24,7 +24,7 @@ from server.tabs.tabs import Tab, parse_frame
 from running import PATIENCE, SMALL, Case, Server, end, started, transport_of, until
 from working import takes_at_most
 
-TURNS = 6  # at most, to find out how long a gesture takes
+TURNS = 10  # at most, until no other program disturbs the measurement
 
 
 class Frames(Case):
@@ -342,11 +342,10 @@ class Crowds(Case):
         server, other = self.server(), self.server()
         async with server.seat("Ada") as ada:
             for kind in FLOODS:
-                rate = round(MOST / max(1.0, await self.median(ada, other, kind, MOST) / USUAL))
                 quiet = loud = math.inf
                 for _ in range(TURNS):
-                    quiet = min(quiet, await self.median(ada, other, kind, rate))
-                    loud = min(loud, await self.median(ada, server, kind, rate))
+                    rate = round(MOST / max(1.0, await self.median(ada, other, kind, MOST) / USUAL))
+                    quiet, loud = await self.median(ada, other, kind, rate), await self.median(ada, server, kind, rate)
                     if loud <= 2 * quiet:
                         break
                 self.assertLessEqual(loud, 2 * quiet, f"{kind}: {1e3 * loud:.1f} ms instead of {1e3 * quiet:.1f} ms")
