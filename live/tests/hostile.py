@@ -349,7 +349,7 @@ class Crowds(Case):
                     if loud <= 2 * quiet:
                         break
                 self.assertLessEqual(loud, 2 * quiet, f"{kind}: {1e3 * loud:.1f} ms instead of {1e3 * quiet:.1f} ms")
-                async with self.flood(server, kind, rate):
+                async with self.flood(server, kind, MOST):
                     await asyncio.sleep(2)
                     for number in range(5):
                         await self.enter(server, f"{kind} {number}")
