@@ -18,7 +18,7 @@ from faulty import Bus, Here
 from running import ALL, Broker, Case, Server, end, until
 from server.journal.journal_lines import CorruptJournal, journal_line, to_json
 from server.model.reading import LONGEST_NAME, LONGEST_NOTE, clean_text
-from server.shell.client import RefusedReply
+from server.shell.client import RefusedReply, Seat
 from server.tabs.refusals import Refused
 
 MOST, EACH, FOLDER = 20_000 if ALL else 300, 20, 1_000  # gestures: in all, before each restart, in a folder
@@ -35,10 +35,15 @@ SITES: list[Any] = ["a-00000001", "b.c-0123abcd", "x" * 31 + "-ffffffff", "D-dea
 Command = tuple[str, dict[str, Any]]
 
 
-def operations_of(reply: Any) -> list[str]:
-    """Return the operations of a reply as texts, which can be compared."""
+async def operations_of(tab: Seat, at: str) -> list[str]:
+    """Return the operations of a road as texts, which can be compared. A reply has a megabyte at most."""
+    found: list[Any] = []
+    place, more = 0, True
+    while more:
+        reply = await tab.say("operations", at=at, **{"from": place})
+        found, place, more = [*found, *reply["operations"]], reply["next"], reply["more"]
     return sorted(json.dumps({name: value for name, value in one.items() if name not in ("shared", "seat")}, sort_keys=True)
-                  for one in reply["operations"])
+                  for one in found)
 
 
 class Hand:
@@ -146,19 +151,19 @@ class Gate(Case):
                         if "refused" not in reply:
                             confirmed[verb] += 1
                             hand.confirm(verb, fields)
-                    own = operations_of(await tab.say("operations", at=tab.at))
+                    own = await operations_of(tab, tab.at)
                     await tab.ask("send", name="shared", title=hand.draw.choice(TEXTS))
-                    shared = operations_of(await tab.say("operations", at="shared"))
+                    shared = await operations_of(tab, "shared")
                 first.restart()
                 seat = first.seat(key=tab.key)
                 async with seat as tab:
                     self.assertIsNone(tab.welcome["trouble"])  # else it would say what cannot be read
-                    self.assertLessEqual({*operations_of(await tab.say("operations", at=tab.at))}, {*own})  # a start forgets some
-                    self.assertEqual(operations_of(await tab.say("operations", at="shared")), shared)
+                    self.assertLessEqual({*await operations_of(tab, tab.at)}, {*own})  # a start forgets some
+                    self.assertEqual(await operations_of(tab, "shared"), shared)
                 seat = first.seat(key=tab.key)
 
                 async def holds() -> bool:
-                    return operations_of(await sam.say("operations", at="shared")) == shared
+                    return await operations_of(sam, "shared") == shared
                 await until(holds, "the second site takes what was confirmed at the first", PATIENCE)
 
     async def test_a_shape_that_no_site_reads_is_refused(self) -> None:
