@@ -89,7 +89,7 @@ export async function measureDemands(road, progress) {
 export const curveSoon = async (road, inlet, step) => entryOf(road, inlet, step);
 
 /** Measure a demand or a capacity. Return its shape with the chances that stand for it (NaN if the
- * inlet does not admit the demand), or a sentence that says why there are none.
+ * inlet does not admit the demand), or a sentence with the reason.
  * @param {Shape} shape
  * @param {string} note      of the change
  * @returns {Promise<Shape | string>}

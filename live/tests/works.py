@@ -84,7 +84,7 @@ class Works(Case):
                 self.assertRegex(said["why"], why)
 
     async def test_each_capacity_is_measured_once(self) -> None:
-        """Two tabs ask at the same time, and one again after a restart. The folder keeps the answer, also that there is none."""
+        """Two tabs ask at the same time, and one again after a restart. The folder keeps the answer, even if it is a refusal."""
         server = self.server()
         asked: dict[str, Any] = {"first": 0, "last": 5, "cars": 700, "limit": 1}
         path = server.folder / "admissions.jsonl"

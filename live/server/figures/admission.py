@@ -32,7 +32,7 @@ Curve = TypedDict("Curve", {"points": Sequence["tuple[int, float]"], "capacity":
 Works = TypedDict("Works", {"cars": int, "limit": int, "drivers": "tuple[int, int, int | None]", "cells": int})
 """Works that leave some cars per hour: their limit and length, and the limit and the chances of the drivers around them."""
 Values = TypedDict("Values", {"value": Capacity, "why": str}, total=False)
-"""The value of a shape of kind `capacity`, or a sentence that says why there is none."""
+"""The value of a shape of kind `capacity`, or a sentence that says why works cannot leave this capacity."""
 
 
 class Curves:
@@ -49,7 +49,7 @@ class Curves:
         return cast(Curve, await self._find(asked, path))
 
     async def find_works(self, asked: Works, path: str) -> Values:
-        """Return the values of the zones of works, or why there are none."""
+        """Return the values of the zones of works, or a sentence that says why works cannot leave this capacity."""
         return cast(Values, await self._find(asked, path))
 
     async def _find(self, asked: Mapping[str, object], path: str) -> Mapping[str, object]:
@@ -88,7 +88,7 @@ def measure(asked: Mapping[str, object]) -> Iterator[Curve | Values]:
 
 
 def measure_works(asked: Works) -> Values:
-    """Return the value of a shape of kind `capacity`, or why there is none."""
+    """Return the value of a shape of kind `capacity`, or a sentence that says why works cannot leave this capacity."""
     try:
         found = find_capacity(asked["cars"], asked["limit"] * KMH, Drivers(*asked["drivers"]), asked["cells"])
     except Fault as fault:
