@@ -262,7 +262,8 @@ class Dask(Folder):
         running = self.run_sweep("dask.csv", "--dask", self.address, "--ship", python=self.python, wait=False)
         before = self.until_rows("dask.csv", 4)
         os.killpg(workers[0].pid, signal.SIGKILL)
-        self.assertEqual((running.wait(2 * PATIENCE), running.communicate()[1].splitlines()[-1]), (0, "60 runs are in dask.csv"))
+        self.assertEqual(running.wait(2 * PATIENCE), 0)
+        self.assertIn("60 runs are in dask.csv", running.communicate()[1].splitlines())  # Dask may complain afterwards
         self.assertLess(before, 60)
         self.assertEqual((self.folder / "dask.csv").read_bytes(), (self.folder / "own.csv").read_bytes())
 

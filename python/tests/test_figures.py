@@ -5,12 +5,15 @@ import dataclasses
 import random
 import statistics
 import unittest
-from typing import Callable
+from typing import Callable, Sequence
 
 from zegdrut import Car, Fault, Plan, RoadLab
-from zegdrut.figures import (FREEWAY, Figure, Mean, Of, RoadRun, Value, choose, compare, list_figures, measure_day, read_run, simulate_days)
-from zegdrut.figures.queues import with_lost
+from zegdrut.figures import (FREEWAY, Figure, Mean, Of, RoadRun, Value, choose, compare, compare_roads, list_figures, list_means, measure_day,
+                             measure_roads, read_run, simulate_days)
+from zegdrut.figures import days as figures_of_days
+from zegdrut.figures.queues import Waits, with_lost
 from zegdrut.figures.trips import Window
+from zegdrut.roads.demand import Drivers
 
 DETECTORS = [20, 60, 90]
 INLETS = [40, 0, 70]
@@ -113,8 +116,8 @@ OF_ROAD: dict[str, Callable[[Watched, Of], float | None]] = {
     "demand at": lambda run, of: run.demand(of.inlet or 0, run.first, LAST),
     "admitted": lambda run, of: total(run.admitted, run.first),
     "admitted at": lambda run, of: run.admitted(of.inlet or 0, run.first, LAST),
-    "lost": lambda run, of: total(run.demand, run.first) - total(run.admitted, run.first),
-    "lost at": lambda run, of: run.demand(of.inlet or 0, run.first, LAST) - run.admitted(of.inlet or 0, run.first, LAST),
+    "lost": lambda run, of: 0.0,  # (cars wait; `check_lost` has the others)
+    "lost at": lambda run, of: 0.0,
     "travel": lambda run, of: run.mean_time(of),
     "cars": lambda run, of: len(run.seen(of.detector)),
     "flow": lambda run, of: (len(run.seen(of.detector)) * 3_600 / sum(run.on[of.detector or 0][run.first:])
@@ -175,16 +178,22 @@ class Table(unittest.TestCase):
         self.assertEqual(known, OF_ROAD.keys() | OF_CHANGE.keys())
 
     def check_lost(self, chance: random.Random, case: int, run: RoadRun, watched: Watched, figures: list[Figure]) -> None:
-        """Compare lost cars with known arrivals minus entries: at a ramp from 3 cars on, and never fewer than none."""
+        """Compare lost cars with known arrivals minus entries: at a ramp from 3 cars on, and never fewer than none. Without arrivals they are
+        demand minus entries."""
         first = watched.first
         missing = {0: (2, 3, -1, 8)[case], 1: (1, -2, 0, 5)[case]}  # at a ramp, and on the main road; the other ramp loses none
         arrivals = {inlet: sorted(chance.sample(range(first, LAST), watched.admitted(inlet, first, LAST) + more)) for inlet, more in missing.items()}
         before = {inlet: [*range(min(first, 5)), *steps] for inlet, steps in arrivals.items()}  # arrivals before the window count nothing
-        run = dataclasses.replace(run, arrivals=before)
+        unknown, run = dataclasses.replace(run, waiting={}), dataclasses.replace(run, waiting={}, arrivals=before)
         wanted = [(0, 3, 0, 8)[case], (1, 0, 0, 5)[case], 0]
         for inlet, lost in enumerate(wanted):
             self.assertEqual([figure.measure(None, run).after for figure in figures if (figure.key, figure.of.inlet) == ("lost at", inlet)], [lost])
         self.assertEqual([figure.measure(None, run).after for figure in figures if figure.key == "lost"], [sum(wanted)])
+        by_demand = {inlet: watched.demand(inlet, first, LAST) - watched.admitted(inlet, first, LAST) for inlet in range(len(INLETS))}
+        for figure in figures:
+            if figure.key in ("lost", "lost at"):
+                self.assertFigure(figure.measure(None, unknown).after, sum(by_demand.values()) if figure.key == "lost" else by_demand[figure.of.inlet or 0],
+                                  figure.title)
 
     def test_lost_cars_make_bounds(self) -> None:
         """Hours and delay are bounds of the true ones if a road loses cars, and say how many, on which road, and where."""
@@ -192,10 +201,56 @@ class Table(unittest.TestCase):
         rows = compare(figures := choose(list_figures(plan), "delay", "hours", "cars"), [[Value(1.0, 2.0, 1.0)] * len(figures)])
         for lost, bound, words in (((0, 0), "", ""), ((0, 12.4), "at least", "12 at km 0 (after)"), ((3, 0), "at most", "3 at km 0 (before)"),
                                    ((3, 4), "unknown", "3 at km 0 (before), 4 at km 0 (after)")):
-            for row in with_lost(rows, ["before", "after"], [{"km 0": cars} for cars in lost]):
+            for row in with_lost([rows], ["before", "after"], [{"km 0": cars} for cars in lost])[0]:
                 is_bound = bool(bound) and row.figure.key != "cars"
                 self.assertEqual(row.bound, bound if is_bound else "")
                 self.assertEqual(row.words, f"Cars that cannot enter are lost: {words}; hours and delay leave them out." if is_bound else "")
+
+    def test_roads_that_lose_equally_many_cars_make_no_bound(self) -> None:
+        """If both roads have the same demand and admit as many cars, lost cars of only one road are chance, and nothing is a bound. If both
+        lose cars, only what does not differ on any day is exact. Without the demand nothing is known."""
+        plan = Plan(length=120, inlets=[(0, 0)], zones=[(5, 0)], detectors=[60]).to_line()
+        keys = ["delay", "hours", "demand", "admitted"]
+        figures = {figure.key: figure for figure in choose(list_figures(plan), *keys)}
+
+        def bounds(lost: tuple[float, float], differences: Sequence[Sequence[float]], shown: Sequence[str] = keys) -> tuple[str, ...]:
+            rows = compare([figures[key] for key in shown], [[Value(1.0, 1.0 + one[keys.index(key)], one[keys.index(key)]) for key in shown] for one in differences])
+            found = {row.figure.key: row.bound for row in with_lost([rows], ["a", "b"], [{"km 0": cars} for cars in lost])[0]}
+            return tuple(found[key] for key in keys[:2])
+        same, slower, other, fewer, more = (0, 0, 0, 0), (2, 3, 0, 0), (-1, 2, 0, 0), (0, 0, 0, -1), (0, 0, 5, 0)
+        for lost in ((0, 4), (4, 0)):
+            for days in ([same], [same, same], [slower], [slower, same], [slower, other]):
+                self.assertEqual(bounds(lost, days), ("", ""), (lost, days))
+        for days in ([fewer], [same, fewer], [more], [fewer, (0, 0, 0, 1)]):
+            self.assertEqual(bounds((0, 4), days), ("at least", "at least"), days)
+        self.assertEqual(bounds((0, 4), [same], keys[:2]), ("at least", "at least"))
+        for days, wanted in (([same], ""), ([same, same], ""), ([slower], "unknown"), ([slower, (-2, -3, 0, 0)], "unknown"), ([fewer], "unknown")):
+            self.assertEqual(bounds((4, 4), days), (wanted, wanted), days)
+
+    def test_lost_cars_make_bounds_of_several_roads(self) -> None:
+        """Each later road is compared with the first: its bound follows from these two alone, and the words name all roads that lose cars."""
+        plan = Plan(length=120, inlets=[(0, 0)], zones=[(5, 0)], detectors=[60]).to_line()
+        rows = compare(figures := choose(list_figures(plan), "delay", "cars"), [[Value(1.0, 2.0, 1.0)] * len(figures)])
+        for lost, bounds in (((0, 5, 0), ("at least", "")), ((5, 0, 6), ("at most", "unknown")), ((0, 0, 0), ("", ""))):
+            tables = with_lost([rows, rows], ["a", "b", "c"], [{"km 0": float(cars)} for cars in lost])
+            self.assertEqual(tuple(table[0].bound for table in tables), bounds)
+            parts = ", ".join(f"{cars} at km 0 ({name})" for name, cars in zip("abc", lost) if cars)
+            self.assertEqual({table[0].words for table in tables},
+                             {f"Cars that cannot enter are lost: {parts}; hours and delay leave them out." if parts else ""})
+            self.assertEqual({(table[1].bound, table[1].words) for table in tables}, {("", "")})
+
+    def test_several_roads_are_compared_with_the_first(self) -> None:
+        """The table of a pair is the same whether other roads are compared too; days are paired. A road alone has one table."""
+        runs, _, figures = run_day(random.Random(5), first=40, origin=0)
+        runs.append(dataclasses.replace(runs[1], demands=[[(0, 700.0)]] * 3, waiting={0: range(LAST)}))
+        days = [[runs[(place + day) % 3] for place in range(3)] for day in range(2)]
+        tables = compare_roads(figures, [measure_roads(figures, day) for day in days])
+        self.assertEqual(tables, [compare(figures, [measure_day(figures, day[0], day[place]) for day in days]) for place in (1, 2)])
+        for place in range(len(figures)):
+            self.assertEqual(list_means(tables, place, 3), [tables[0][place].before, tables[0][place].after, tables[1][place].after])
+        alone = compare_roads(figures, [measure_roads(figures, day[:1]) for day in days])
+        self.assertEqual(alone, [compare(figures, [measure_day(figures, day[0]) for day in days])])
+        self.assertEqual(list_means(alone, 0, 1), [alone[0][0].after])
 
     def test_names(self) -> None:
         """A figure of an inlet or a detector names its place; no two figures of a road have the same name. The main road's inlet is the
@@ -236,6 +291,16 @@ class Table(unittest.TestCase):
 
 
 class Days(unittest.TestCase):
+    def test_ends_of_queues_that_are_not_known(self) -> None:
+        """A queue that is there on one day of two has no mean end, and then its row is left out. Its hours have a row."""
+        plan = Plan(length=100, zone=100, inlets=[(0, 0)], zones=[(5, 0)], words=1).to_line()
+        figures = choose(list_figures(plan), "wait", "wait end", inlet=0)
+        nobody = [Waits(frozenset(), False, None)] * 2
+        for end, wanted in ((None, ["wait"]), (8.0, ["wait", "wait end"])):
+            values = [[Value(0.0, 2.0, 2.0), Value(None, 5.0, None)], [Value(0.0, 0.0, 0.0), Value(None, end, None)]]
+            rows = figures_of_days.Days(figures, [1, 2], values, [nobody] * 2, Drivers(5, 0), [{}, {}]).rows()
+            self.assertEqual([row.figure.key for row in rows], wanted)
+
     def test_results_in_the_order_of_the_seeds(self) -> None:
         seen: list[tuple[int, int]] = []
         self.assertEqual(simulate_days(lambda seed: seed * seed, range(5, 12), lambda *done: seen.append(done)), [one * one for one in range(5, 12)])

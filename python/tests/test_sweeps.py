@@ -44,6 +44,14 @@ def bad(a, b, seed):
 def road(inflow):
     return Plan(length=60, inlets=[(0, inflow)], zones=[(4, 0)], detectors=[20, 40])
 '''
+DAYS = '''
+import os, time
+from zegdrut.figures import simulate_days
+def make_run(seed):
+    os.write(1, f"{os.getpid()}\\n".encode())
+    time.sleep(60)
+simulate_days(make_run, range(6), jobs=3)
+'''
 GRID = ["--grid", "a=1,2,3", "--grid", "b=0:4:1", "--seeds", "1-4"]
 KEYS = [(a, b, seed) for a in (1, 2, 3) for b in range(5) for seed in range(1, 5)]
 
@@ -222,6 +230,21 @@ class Sweeps(Folder):
         pids = {next(running).value[1] for _ in range(6)}
         running.close()
         self.assertTrue(all(not Path(f"/proc/{pid}").exists() for pid in pids))
+
+    def test_workers_end_with_their_caller(self) -> None:
+        """End a script that simulates days: its processes end at once, too, and not only once their jobs are done."""
+        for number in (signal.SIGTERM, signal.SIGKILL):
+            process = subprocess.Popen([sys.executable, "-c", DAYS], stdout=subprocess.PIPE, text=True,
+                                       env={**os.environ, "PYTHONPATH": os.pathsep.join(sys.path)})
+            assert process.stdout is not None
+            commands = [Path("/proc", process.stdout.readline().strip(), "cmdline") for _ in range(3)]
+            process.send_signal(number)
+            process.wait()
+            process.stdout.close()
+            until = time.monotonic() + 20
+            while any(one.exists() and one.read_bytes() for one in commands) and time.monotonic() < until:
+                time.sleep(0.01)
+            self.assertLess(time.monotonic(), until, number)
 
     def test_files_of_different_sweeps(self) -> None:
         sweep(plain_model, {"x": [1]}, out=self.out)

@@ -92,14 +92,16 @@ class Waiting(unittest.TestCase):
         self.assertEqual((delay.seconds, delay.cars), (steps[1] - steps[0], len(runs[0][1][0])))
 
     def test_a_road_that_loses_nobody(self) -> None:
-        """Nothing is changed, and the table has the same rows with a queue and without."""
+        """Nothing is changed, and the table has the same rows with a queue and without; with a queue no demand is lost."""
         free = make_script([], ramp=3_000)
         one, _, queues, _, edits = run(free, free)
         self.assertEqual(len(edits), len(free.commands) - 1)
         self.assertFalse(any(queues[0].waiting))
         sides = [Side("before", free, [[(0, 900.0)], [(0, 100.0)]], with_queue) for with_queue in (None, free)]
         tables = [make_table([side], [[run_side(side, 3, Window(60, LAST), False)]], Window(60, LAST)) for side in sides]
-        self.assertEqual([(row.figure.title, row.after, row.bound) for row in tables[0]], [(row.figure.title, row.after, row.bound) for row in tables[1]])
+        rows = [{row.figure.title: (row.after.mean, row.bound) for row in table} for table in tables]
+        self.assertEqual([one.pop("lost demand, cars") for one in rows], [(650.0 - tables[0][2].after.mean, ""), (0.0, "")])
+        self.assertEqual(*rows)
 
     def test_a_ramp(self) -> None:
         """A ramp's arrivals are its entries on the road without works. From three missing cars on they wait, and all of them enter."""

@@ -11,7 +11,9 @@ progress and the best point; to a log it writes a line every ten seconds.
 It prints the result, the terms of its error and the ten best points. It writes calibrated-NAME.json (ROAD.json with the fitted drivers, and the measured demand
 of the main road and of the ramps times the fitted factor), tried-NAME.csv (all points with their errors) and surface-NAME.svg (a picture
 of the errors). zegdrut/measurements/calibration.py defines the error. An error of about 2 is as good as chance allows. The command warns if the
-smallest error is above 5, and if a result is within 5 % of the bounds of its range.
+smallest error is above 5, and if a result is within 5 % of the bounds of its range. Then it compares the congestion of the result with the
+measured one, and says how far the delay moves with drivers that fit as well within chance. calibrated-NAME.json has these drivers, too, and
+`zegdrut report` shows how far its figures move with them.
 """
 from __future__ import annotations
 
@@ -26,10 +28,10 @@ import sys
 from pathlib import Path
 from typing import Sequence
 
-from ..measurements.calibration import (DELAY_UNCERTAINTY, NAMES, TERMS, TOTAL_UNCERTAINTY, Bounds, Calibration, MeasuredDay, Misfit, Point, Search,
-                                        Trial, apply_point, calibrate, is_congested, list_limits, make_calibrated)
+from ..measurements.calibration import (DELAY_UNCERTAINTY, NAMES, TERMS, TOTAL_UNCERTAINTY, Alternatives, Bounds, Calibration, MeasuredDay, Misfit,
+                                        Point, Search, Trial, apply_point, calibrate, find_alternatives, is_congested, list_limits, make_calibrated)
 from ..measurements.comparison import compare_hours, make_model, with_measured_demand
-from ..measurements.congestion import list_segments, simulate_segments
+from ..measurements.congestion import CONGESTED, Both, compare_time_lost, list_segments, simulate_segments
 from ..measurements.measured import Measured
 from ..program.bars import Bar
 from ..program.errors import Fault, LabError, describe_error
@@ -38,9 +40,10 @@ from ..reports.outputs import prepare_folder
 from ..reports.pictures import draw_points, stack_drawings
 from ..roads.demand import BeyondCapacity
 from ..roads.freeway import Figures, make_road, measure_chances
-from ..roads.freeway_files import write_road
+from ..roads.freeway_files import Alternative, Calibrated, format_range, write_road
 from ..roads.units import count_things
-from .measured import (Congestion, add_congestion_argument, add_data_arguments, check_congested, format_shares, print_lines, read_days,
+from .freeway import FIGURES
+from .measured import (DAYS, Congestion, add_congestion_argument, add_data_arguments, check_congested, format_shares, print_lines, read_days,
                        report_progress)
 from .sweep import add_dask_options, open_executor
 
@@ -49,10 +52,13 @@ NO_CONGESTION = ("no station is congested (more than 10 km/h below its highest s
                  "chance, and its value is arbitrary. Use counts of a day with a jam")
 NO_MINIMUM = ("the errors show no minimum, so the result is the mean of the best points: the slow-to-start chance may be off by 0.2, "
               "whatever its spread. Try more points or days")
+NO_RANGE = ("no range of the delay is known: with a single simulated day per point, or fewer than 3 points near the best, nothing says how far the "
+            "delay moves with drivers that fit as well within chance. Use --days 2 or more, and more --points")
 SHORT_SEARCH = (f"fewer than {Search.points} points or {Search.days} days: the result may be off by more than its spread, which is only that "
                 "of the best points (recipes/measured/README.md has examples)")
 
 
+BEST_SO_FAR = "the search was ended early, and wrote no file. The best point of each limit so far:"
 CHANCE_ERROR, MOST_ERROR = 2, 5.0
 """The error that chance alone makes, about, and the error above which the command warns."""
 NEAR_BOUND = 0.05
@@ -60,6 +66,8 @@ NEAR_BOUND = 0.05
 QUANTITIES = ("slowing chance", "slow-to-start chance", "demand factor")
 
 
+ONLY_MOVING = (". In the model only moving cars pass a detector: if the detectors of the counts see a jam, this term stays large, and the verdict "
+               "on jams says more")
 LARGE_TERM = 3.0
 """A term of an error above this is far from what chance makes, about 1."""
 
@@ -77,10 +85,11 @@ def find_mean_misfit(found: Calibration) -> Misfit | None:
 def describe_terms(misfit: Misfit, limit: float) -> list[str]:
     """Return a sentence for each term of the error that chance does not explain."""
     off = 1 / misfit.ratio - 1
-    details = (f"the simulation has {100 * abs(off):.1f} % {'more' if off > 0 else 'fewer'} cars" if abs(off) > TOTAL_UNCERTAINTY else
+    details = (f"the best point has {100 * abs(off):.1f} % {'more' if off > 0 else 'fewer'} cars" if abs(off) > TOTAL_UNCERTAINTY else
                "the totals of the stations do not fit each other",
                f"the simulated free speed is {abs(misfit.free_speed):.1f} km/h too {'high' if misfit.free_speed > 0 else 'low'} with the limit "
-               f"{limit:g} km/h", f"the simulated delay is {math.exp(misfit.delay):.2f} times the measured one", "", "")
+               f"{limit:g} km/h", f"by the speeds at detectors the best point has {math.exp(misfit.delay):.2f} times the measured delay" + ONLY_MOVING * (
+                   misfit.delay < 0), "", "")
     return [f"the error is large in its term {name!r} ({value:.1f})" + (f": {detail}" if detail else "")
             for name, value, detail in zip(TERMS, misfit.terms, details) if value > LARGE_TERM]
 
@@ -212,11 +221,7 @@ def run_calibration(given: argparse.Namespace, out: Path) -> None:
     program_path()  # (its note is printed here, and not by each process)
     limits = list_limits(figures, [day for _, day in days], bounds)
     report_progress(f"trying {search.total} points with the {count_things(len(limits), 'limit')} {', '.join(f'{one:g}' for one in limits)} km/h")
-    bar = Bar("points", in_log=True)
-    with open_executor(given.dask) as executor:
-        found = calibrate(given.road.stem, days, bounds, search, lambda done, total, best: bar.show(done, total, describe_best(best)), given.jobs,
-                          executor, given.ship)
-    bar.end()
+    found = search_limits(given, days, bounds, search, limits)
     days, checked = ([(dataclasses.replace(one, limit=found.limit), day) for one, day in each] for each in (days, checked))
     figures, measured = days[0]
     if not found.is_fitted:
@@ -231,17 +236,49 @@ def run_calibration(given: argparse.Namespace, out: Path) -> None:
     print("\n" + "\n".join(format_trials(found.best_ten())))
     print_lines(list_warnings(found, bounds))
     best = found.best._replace(slowing=round(found.best.slowing, 4), start=round(found.best.start, 4))
-    calibrated = make_calibrated(figures, measured, best)
-    write_road(folder / f"calibrated-{name}.json", given.road, calibrated)
+    calibrated = dataclasses.replace(make_calibrated(figures, measured, best), calibration=None)
+    path = folder / f"calibrated-{name}.json"
+    write_road(path, given.road, calibrated)
     (folder / f"tried-{name}.csv").write_text("".join(f"{line}\n" for line in format_trials(found.tried)), encoding="utf-8")
     (folder / f"surface-{name}.svg").write_text(draw_surface(found), encoding="utf-8")
+    alternatives = find_alternatives(found)
+    if alternatives is None:
+        print_lines([NO_RANGE])
     if check_admission(calibrated):
         for what, each in (("fitted", days), ("checked", checked)):
             for road, day in each:
-                print_lines(["", f"{what}: {day.clock.date or 'the counts'}", *compare_calibrated(given, road, day, best)])
+                # The written file has the demand of the first day, rounded. The same file has the same figures in `measured`.
+                own = (FIGURES.override(path), None) if day is measured else (apply_point(road, best), best.factor)
+                lines, delay = compare_calibrated(given, own[0], day, own[1])
+                print_lines(["", f"{what}: {day.clock.date or 'the counts'}", *lines])
+                if alternatives is not None and delay is not None and each is days:
+                    sure = measure_alternatives(given, alternatives, (road, day), best, delay.simulated)
+                    print_lines([describe_alternatives(alternatives, found, sure, delay)])
+                    if day is measured:
+                        write_road(path, given.road, dataclasses.replace(calibrated, calibration=sure))
     more = "".join(f" {word}" for word in list_count_words(given))
     print(f"The calibrated road, the points and the picture are in {folder}. Compare the road with its counts by "
-          f"`recipes/measured/run {folder / f'calibrated-{name}.json'} {given.counts}{more} --demand road`", file=sys.stderr)
+          f"`recipes/measured/run {path} {given.counts}{more} --demand road`", file=sys.stderr)
+
+
+def search_limits(given: argparse.Namespace, days: Sequence[MeasuredDay], bounds: Bounds, search: Search, limits: Sequence[float]) -> Calibration:
+    """Search the limits, and show the progress. After Ctrl-C print the best point of each limit so far."""
+    bar, best = Bar("points", in_log=True), dict[float, Trial]()
+
+    def show(done: int, total: int, trial: Trial) -> None:
+        limit = limits[(done - 1) // search.total]
+        best[limit] = min(best.get(limit, trial), trial, key=lambda one: one.error)
+        bar.show(done, total, describe_best(trial))
+    try:
+        with open_executor(given.dask) as executor:
+            found = calibrate(given.road.stem, days, bounds, search, show, given.jobs, executor, given.ship)
+    except KeyboardInterrupt:
+        bar.end()
+        print_lines([BEST_SO_FAR, "limit km/h,slowing,slow-to-start,demand factor,error"] + [
+            f"{limit:g},{','.join(f'{value:.4f}' for value in one.point)},{one.error:.4f}" for limit, one in best.items()])
+        raise
+    bar.end()
+    return found
 
 
 def list_count_words(given: argparse.Namespace) -> list[str]:
@@ -250,6 +287,7 @@ def list_count_words(given: argparse.Namespace) -> list[str]:
     words += [f"--origin {given.origin:g}"] if given.origin is not None else []
     words += ["--reverse"] if given.reverse else []
     words += ["--no-ramp-check"] if given.no_ramp_check else []
+    words += [f"--congested {given.congested:g}"] if given.congested != CONGESTED else []
     return [*words, *(f"--{name.replace('_', '-')} {shlex.quote(one)}" for name in ("leave_out", "scale", "column", "unit")
                       for one in getattr(given, name))]
 
@@ -264,12 +302,38 @@ def check_admission(figures: Figures) -> bool:
     return True
 
 
-def compare_calibrated(given: argparse.Namespace, figures: Figures, measured: Measured, best: Point) -> list[str]:
-    """Simulate the calibrated road over some days. Return its congestion beside the measured one, its GEH and a verdict on each jam."""
-    model = make_model(given.road.stem, apply_point(figures, best), measured, best.factor)
-    days = simulate_segments(model, list_segments(model), given.days)
+def compare_calibrated(given: argparse.Namespace, figures: Figures, measured: Measured, factor: float | None) -> tuple[list[str], Both | None]:
+    """Simulate a road over as many days as `measured` does, with the measured demand times a factor, or with its own demand if `factor` is
+    None. Return its congestion beside the measured one, its GEH and a verdict on each jam, and its delay (None without speeds)."""
+    model = make_model(given.road.stem, figures, measured, factor)
+    days = simulate_segments(model, list_segments(model), DAYS)
     congestion = Congestion(model, days, given.congested)
-    return [*congestion.format_table(), "", *format_shares(measured, compare_hours(measured, [one.passed for one in days])), *congestion.describe()]
+    return [*congestion.format_table(), "", *format_shares(measured, compare_hours(measured, [one.passed for one in days])),
+            *congestion.describe()], congestion.delay
+
+
+def measure_alternatives(given: argparse.Namespace, alternatives: Alternatives, day: MeasuredDay, best: Point, delay: float) -> Calibrated:
+    """Measure the delay of the drivers that fit a measured day as well, over the same simulated days as that of the best point."""
+    report_progress("simulating drivers that fit as well")
+    road, measured = day
+
+    def measure(point: Point) -> Alternative:
+        rounded = point._replace(slowing=round(point.slowing, 4), start=round(point.start, 4))
+        model = make_model(given.road.stem, apply_point(road, rounded), measured, rounded.factor)
+        lost = compare_time_lost(segments := list_segments(model), simulate_segments(model, segments, DAYS), given.congested)
+        return Alternative(rounded.slowing, rounded.start, round(rounded.factor / best.factor, 5), round(lost.delay.simulated, 2) if lost else 0.0)
+    less, more = sorted(map(measure, (alternatives.less, alternatives.more)), key=lambda drivers: drivers.delay)
+    return Calibrated(round(delay, 2), less, more)
+
+
+def describe_alternatives(alternatives: Alternatives, found: Calibration, sure: Calibrated, delay: Both) -> str:
+    """Return a sentence on the delay, measured and simulated, and how far it moves over the points that fit as well."""
+    later = sum(bool(one.round) for one in found.tried)
+    half = "" if delay.half is None else f" ± {delay.half:.1f}"
+    return (f"delay of congested traffic in vehicle hours per lane: {delay.measured:.1f} measured, by the speeds of cars that pass a station, and "
+            f"{delay.simulated:.1f}{half} simulated, by all cars between the stations. "
+            f"Calibration: {format_range(sure)} by drivers that fit as well within chance ({alternatives.points} of {later} points, with errors up to "
+            f"{alternatives.most_error:.1f}). ± does not include this")
 
 
 def main(words: Sequence[str] | None = None, out: Path = Path("out")) -> int:

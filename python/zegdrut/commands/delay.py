@@ -12,7 +12,7 @@
     --out FOLDER   the folder of the tables (default: out/)
 
 If the folder of BEFORE has a file units.json, such as recipes/freeway writes, its "metres" and "seconds" are the defaults, "origin" is
-the cell at km 0, and "begin" the step at minute 0.
+the cell at km 0, and "begin" the step at minute 0. Its "notes" are printed.
 
 Cars that cannot enter wait before their inlet, and their waiting is part of the delay (`zegdrut.roads.waiting` has the rule). If cars wait,
 a car's entry is its arrival at the inlet, and the tables have rows for the queues.
@@ -38,7 +38,8 @@ from ..figures.days import ROADS, Days, run_over_days
 from ..figures.delay import Delay, Entered, Group, compare_delays, to_vehicle_hours
 from ..figures.intervals import warn_few_days
 from ..figures.lost import compute_demands, compute_supplies
-from ..figures.queues import EditedRoad, Waits, explain_growing, explain_outflow, find_bound, find_growing, find_inlets, read_roads, run_day
+from ..figures.queues import (EditedRoad, Waits, average_lost, explain_growing, explain_lost, explain_outflow, find_bound, find_growing,
+                              find_inlets, read_roads, run_day)
 from ..figures.simulation import RoadRun
 from ..figures.table import Figure, FigureRow, choose, list_figures, sort_inlets
 from ..figures.trips import Window, count_admitted_cars
@@ -84,10 +85,11 @@ def compute_supplies_of_run(road: EditedRoad, run: RoadRun) -> list[Supply]:
 
 
 def format_demands(inlets: Sequence[Sequence[int]], before: list[Supply], after: list[Supply], units: Units) -> list[str]:
-    """Return the table of demand and lost demand, in cars. Arrivals are random: even a free road loses up to ±."""
+    """Return the table of demand and lost demand, in cars. Arrivals are random: even a free road loses up to ±. If more cars enter than the
+    demand, none is lost."""
     lines = [f"inlet,{units.place_title()},demand before,admitted before,lost before,demand after,admitted after,lost after,± by chance"]
     for inlet, ((cell, _), one, other) in enumerate(zip(inlets, before, after)):
-        numbers = [f"{value:.1f}" for side in (one, other) for value in (side.demand, side.admitted, side.lost)]
+        numbers = [f"{value:.1f}" for side in (one, other) for value in (side.demand, side.admitted, max(side.lost, 0.0))]
         lines.append(",".join([str(inlet), units.place_value(cell), *numbers, f"{max(one.scatter, other.scatter):.0f}"]))
     return lines
 
@@ -193,14 +195,14 @@ def compare_over_days(given: argparse.Namespace) -> None:
     print("".join(f"{one}\n" for one in warn_few_days(given.days)), end="", file=sys.stderr, flush=True)
     write_and_print(given.out, "days.csv", format_rows(rows))
     write_table(given.out, "by_day.csv", format_days(days))
-    print("".join(f"{note}\n" for note in days.notes), end="")
+    print("".join(f"{note}\n" for note in [*days.notes, *read_notes(given)]), end="")
     # All hours include those of cars that wait.
     draw_differences(given.out, days, next((row for row in rows if row.figure.key == "all hours"), rows[0]))
 
 
 def read_units(given: argparse.Namespace) -> Units:
     """Return the lengths of a cell and of a step: those of the options, or of units.json in the folder of the first script."""
-    path = Path(given.scripts[0]).with_name("units.json")
+    path = find_units(given)
     try:
         found = json.loads(path.read_text(encoding="utf-8")) if path.exists() else {}
         metres, seconds = (None if found.get(name) is None else float(found[name]) for name in ("metres", "seconds"))
@@ -211,6 +213,17 @@ def read_units(given: argparse.Namespace) -> Units:
     if not all(0 < length < float("inf") for length in (units.metres, units.seconds) if length is not None):
         raise Fault("--metres and --seconds (or those of units.json) must be above 0")
     return units
+
+
+def find_units(given: argparse.Namespace) -> Path:
+    """Return the path of units.json in the folder of the first script."""
+    return Path(given.scripts[0]).with_name("units.json")
+
+
+def read_notes(given: argparse.Namespace) -> list[str]:
+    """Return the notes of units.json, whose form `read_units` has checked: how sure the drivers of a calibrated road are."""
+    path = find_units(given)
+    return list(map(str, json.loads(path.read_text(encoding="utf-8")).get("notes", []))) if path.exists() else []
 
 
 def read_arguments(words: Sequence[str] | None, example: Sequence[str], out: Path) -> argparse.Namespace:
@@ -243,20 +256,22 @@ def compare(given: argparse.Namespace) -> None:
     roads = read_roads(given.scripts, scripts, given.at)
     plan = scripts[0].plan
     check_same_road(plan, scripts[1].plan)
-    runs = [run_day(road.script, None if given.no_queue else road.free, Window(units.begin, road.last), detectors=[], seconds=seconds,
+    runs = [run_day(road.script, road.free, Window(units.begin, road.last), detectors=[], seconds=seconds, waits=not given.no_queue,
                     origin=units.origin) for road in roads]
     cost = compare_delays(runs[0].by_arrival, runs[1].by_arrival, max(round(given.minutes * 60 / seconds), 1), units.begin)
     waits = [list(map(Waits.of, runs))]
-    grow, inlets, figures = find_growing(waits), find_inlets(waits), list_figures(plan, units)
+    grow, inlets, figures, lost = find_growing(waits), find_inlets(waits), list_figures(plan, units), [average_lost([run], units) for run in runs]
+    bound = find_bound([grows or any(cars.values()) for grows, cars in zip(grow, lost)])
     supplies = [compute_supplies_of_run(road, run) for road, run in zip(roads, runs)] if given.demand else []
     write_and_print(given.out, "delay.csv", format_delays(cost, seconds, given.minutes))
     write_and_print(given.out, "inlets.csv", format_inlets(cost, plan["inlets"], units))
     if inlets:
         write_and_print(given.out, "waiting.csv", format_waiting(figures, runs, inlets, units))
-    write_and_print(given.out, "sums.csv", format_sums(cost, seconds, list_waiting_sums(figures, runs, inlets), find_bound(grow)))
+    write_and_print(given.out, "sums.csv", format_sums(cost, seconds, list_waiting_sums(figures, runs, inlets), bound))
     if given.demand:
         write_and_print(given.out, "demand.csv", format_demands(plan["inlets"], supplies[0], supplies[1], units))
-    print_notes(cost, seconds, [note for note in (explain_growing(ROADS, grow), *explain_outflow(roads[0].drivers, waits)) if note])
+    print_notes(cost, seconds, [note for note in (
+        explain_growing(ROADS, grow), *explain_outflow(roads[0].drivers, waits), explain_lost(ROADS, lost), *read_notes(given)) if note])
 
 
 def main(words: Sequence[str] | None = None, example: Sequence[str] = (), out: Path = Path("out")) -> int:

@@ -12,13 +12,14 @@ them into the folder, by default out/ or, for a file NAME.json, out/NAME:
     stretch.csv    flow, density and speed on a stretch of the road, period by period
 
 The folder also has the script (script.jsonl), its replies, and units.json with the lengths of a cell and a step. If the road has an
-approach, units.json also has the cell at km 0 ("origin") and the step at minute 0 ("begin"). If the road has sections or stalled cars,
-without.jsonl is the same road and seed without them.
+approach, units.json also has the cell at km 0 ("origin") and the step at minute 0 ("begin"). If the road was calibrated, it has a note on how
+sure its drivers are, which `zegdrut delay` prints. If the road has sections or stalled cars, without.jsonl is the same road and seed without them.
 
 FILE2 of --then has the sections and stalled cars as they turned out. The command then changes the past of the run by edits
 (then.jsonl) and lists them. The tables of the changed run are then_demand.csv and so on.
 With --plan the command runs no freeway. It prints, for live/serve, the plan, the shapes of the demand over time, of sections and of
-stalled cars, and the demand of each inlet in cars per hour.
+stalled cars, and the demand of each inlet in cars per hour. If the road has an approach, it also prints the cell at km 0 ("origin") and
+the step at minute 0 ("lead").
 
 The stretch is measured by Edie's definitions over the rows after each step of the period. If N is the number of cars on its cells in
 all these rows and V is the sum of their speeds, then density is N and flow is V, both divided by the number of cells and of rows, and
@@ -42,6 +43,7 @@ from ..reports.outputs import prepare_folder
 from ..roads.demand import Inlet, Supply, count_admitted, count_demand, find_rate
 from ..roads.freeway import (Fault, Figures, Road, Section, find_changes, describe_changes, list_free_cells, make_road, make_shapes, measure_chances,
                              postpone, widen_inlet, widen_inlets, with_lead)
+from ..roads.freeway_files import describe_calibration
 from ..roads.inflow import run_script
 from ..roads.road_scripts import Chances, make_commands, make_plan, make_script
 from ..roads.units import CELLS_A_KM, HOUR, KMH, METRES, format_distance, to_steps
@@ -99,6 +101,10 @@ def format_demands(road: Road, found: Chances, start: Script) -> Lines:
             supply = Supply(count_demand(demand, first, last), came)
             lines.append(f"{road.units.place_value(cell)},{format_time(road, first)},{format_time(road, last)},{supply.demand:.1f},{came},"
                          f"{max(supply.lost, 0.0):.1f},{supply.scatter:.0f}")
+        whole = Supply(count_demand(demand, road.lead, road.steps), count_admitted_cars(trips, Window(road.lead, road.steps))[inlet])
+        if is_short(whole):
+            road.notes.append(f"at km {format_distance(road.to_km(cell))} {whole.lost:.0f} of {whole.demand:.0f} cars cannot enter in this run, and are lost: "
+                              "the tables leave them out")
     note_full_inlets(road, found)
     return lines
 
@@ -260,7 +266,8 @@ def run_freeway(figures: Figures, folder: Path, then: Figures | None = None) -> 
     start = make_script(road, inlets, figures.seed)
     demand = format_demands(road, inlets, start)
     print_lines(road.notes[before:], end="\n")
-    units = {"metres": METRES, "seconds": 1, **({"origin": road.approach, "begin": road.lead} if road.approach else {})}
+    units: dict[str, object] = {"metres": METRES, "seconds": 1, **({"origin": road.approach, "begin": road.lead} if road.approach else {}),
+             **({"notes": notes} if (notes := describe_calibration(figures.calibration)) else {})}
     write_lines(folder, "units.json", [json.dumps(units)])
     script = with_commands(start, list_queries(road))
     write_tables(folder, "", make_tables(figures, road, demand, run_and_write(folder, "script.jsonl", "replies.jsonl", script)))
@@ -268,8 +275,9 @@ def run_freeway(figures: Figures, folder: Path, then: Figures | None = None) -> 
         run_and_write(folder, "without.jsonl", "without_replies.jsonl",
             with_commands(make_script(road, inlets, figures.seed, with_works=False), list_queries(road)))
     if changed:
-        edits = make_commands(changed)
+        edits, told = make_commands(changed), len(road.notes)
         demand = format_demands(road, inlets, with_commands(start, edits))
+        print_lines([f"then: {one}" for one in road.notes[told:] if one not in road.notes[:told]])
         replies = run_and_write(folder, "then.jsonl", "then_replies.jsonl", with_commands(script, [*edits, *list_queries(road)]))
         print("\nthen:\n")
         write_tables(folder, "then_", make_tables(figures, road, demand, replies[-len(list_queries(road)):]))
@@ -281,8 +289,9 @@ def print_plan(figures: Figures) -> None:
     road = make_road(figures)
     print("".join(f"{one}\n" for one in road.notes), end="", file=sys.stderr, flush=True)
     found = measure_chances_aloud(road)
+    approach = {"origin": road.approach, "lead": road.lead} if road.approach else {}
     print(json.dumps({"plan": make_plan(road, found, figures.seed), "shapes": list(make_shapes(figures, road, found)),
-                      "demands": [rates for _, rates in road.inlets]}))
+                      "demands": [rates for _, rates in road.inlets], **approach}))
 
 
 def read_arguments(words: Sequence[str] | None) -> argparse.Namespace:
@@ -301,9 +310,7 @@ def main(words: Sequence[str] | None = None, out: Path = Path("out")) -> int:
     try:
         figures = FIGURES.override(given.file) if given.file else FIGURES
         if given.plan:
-            if figures.approach:
-                raise Fault(f"{figures.source}: approach: live takes no approach: leave it out of the file that live serves")
-            print_plan(widen_inlet(figures))
+            print_plan(with_lead(widen_inlet(figures)))
             return 0
         then = figures.override_works(given.then) if given.then else None
         folder = given.out or out / (given.file.stem if given.file else "")

@@ -26,8 +26,8 @@ from typing import Optional, Sequence, cast
 from ..figures.intervals import FEW_DAYS, warn_few_days
 from ..measurements.comparison import (Day, Hour, Model, compare_hours, compare_speeds, list_left_out, make_model, make_interval_records, compute_total_rmse, compute_share_below,
                           simulate_day, simulate_days, with_measured_demand, with_stations)
-from ..measurements.congestion import (CONGESTED, JudgedDay, compare_time_lost, describe_jams, judge, list_segments,
-                                       simulate_segments)
+from ..measurements.congestion import (CONGESTED, LONG_INTERVAL, Both, JudgedDay, compare_time_lost, describe_congested_demand, describe_jams,
+                                       describe_lost, judge, list_segments, simulate_segments)
 from ..measurements.measured import Measured, put_on_road
 from ..measurements.stations import HEADERS, Counts, correct_counts, read_counts, read_stations
 from ..program.bars import Bar
@@ -37,7 +37,7 @@ from ..reports.outputs import format_csv, prepare_file, prepare_folder
 from ..reports.pictures import MEASURED, NO_DATA, SIMULATED, Chart, Field, Line, draw_field, draw_scale, stack_drawings, make_speed_field
 from ..roads.demand import BeyondCapacity
 from ..roads.freeway import Figures, make_road, widen_inlet
-from ..roads.freeway_files import write_road
+from ..roads.freeway_files import describe_calibration, write_road
 from ..roads.units import HOUR, count_things, format_fixed
 from .freeway import FIGURES
 
@@ -151,9 +151,14 @@ def read_day(given: argparse.Namespace, figures: Figures) -> tuple[Figures, Meas
     counts = counts if counts.rows else read_counts(given.counts, table, columns, units)
     counts = correct_counts(counts, given.leave_out, read_factors(given.scale))
     figures = with_date_of(figures, counts)
-    measured = put_on_road(counts, figures.clock, round(figures.minutes * 60), given.origin, given.reverse, not given.no_ramp_check)
-    make_road(with_measured_demand(with_stations(figures, measured), measured)[0])
-    return figures, measured
+    gives_demand = getattr(given, "demand", "counts") == "counts"  # (`calibrate` has no such option)
+    measured = put_on_road(counts, figures.clock, round(figures.minutes * 60), given.origin, given.reverse, not given.no_ramp_check, gives_demand)
+    road = with_stations(figures, measured)
+    if not gives_demand:
+        make_road(road)
+        return figures, measured
+    make_road(with_measured_demand(road, measured)[0])
+    return figures, dataclasses.replace(measured, notes=[*measured.notes, *describe_congested_demand(measured, given.congested)])
 
 
 def with_date_of(figures: Figures, counts: Counts) -> Figures:
@@ -224,7 +229,9 @@ class Congestion:
         """Judge the days of a model. Traffic is congested below a share of the free speed."""
         self._measured, self._share = model.measured, share
         self._found = judge(model.measured, days, share)
-        self._lost = compare_time_lost(list_segments(model), days, share)
+        self._segments = list_segments(model)
+        self._lost = compare_time_lost(self._segments, days, share)
+        self._lost_cars = describe_lost(model, days)
 
     def format_table(self) -> list[str]:
         """Return the table of station intervals, speeds, delay and travel times."""
@@ -234,17 +241,32 @@ class Congestion:
         for what, off in (("measured congestion", self._found.congested), ("measured free traffic", self._found.free)):
             rows += [[f"RMSE of speed in {what}", "km/h", format_number(off.rmse), ""],
                      [f"simulated minus measured speed in {what}", "km/h", format_number(off.bias), ""]]
+        bound = " (at least)" if self._lost_cars else ""
         if self._lost is not None:
             for name, unit, both in (("delay of congested traffic", "vehicle hours per lane", self._lost.delay),
                                      ("mean travel time", "s", self._lost.mean_time), ("longest travel time", "s", self._lost.longest_time)):
                 if both is not None:
                     rows += [[f"{name}, measured", unit, format_number(both.measured), ""],
-                             [f"{name}, simulated", unit, format_number(both.simulated), format_number(both.half)]]
+                             [f"{name}, simulated{bound}", unit, format_number(both.simulated), format_number(both.half)]]
         return format_csv(rows)
 
+    @property
+    def delay(self) -> Both | None:
+        """Return the delay of congested traffic in vehicle hours per lane, or None without speeds."""
+        return None if self._lost is None else self._lost.delay
+
     def describe(self) -> list[str]:
-        """Return what congestion means here, and a verdict on each jam."""
-        return [f"congested: below {self._share:g} of the free speed of the station", *describe_jams(self._found, self._measured)]
+        """Return what congestion means here, the stretch of the delay and the travel times, and a verdict on each jam."""
+        said = [f"congested: below {self._share:g} of the free speed of the station"]
+        if self._lost is not None:
+            first, last = (self._segments[place].series.station for place in (0, -1))
+            said.append(f"delay and travel times: from station {first.name} to {last.name}, km {first.km:g} to {last.km:g}; travel times are means over "
+                        "the intervals. Station intervals and jams: at the stations after the first")
+        interval = self._measured.interval
+        if interval < LONG_INTERVAL:
+            said.append(f"in counts of {count_things(interval // 60, 'minute')} one free interval ends a jam: for a verdict add them up to "
+                        f"{LONG_INTERVAL // 60} minutes")
+        return [*said, *self._lost_cars, *describe_jams(self._found, self._measured)]
 
 
 def format_records(records: Sequence[Record]) -> list[str]:
@@ -344,7 +366,8 @@ def compare(given: argparse.Namespace, out: Path) -> None:
         print(f"\n{make_title(model)}\n" + "\n".join(lines))
     write_table(folder, "intervals", model, format_records(make_interval_records(model, days)))
     print()
-    print_lines([*format_shares(measured, hours), *congestion.describe()])
+    print_lines([*format_shares(measured, hours), *congestion.describe(),
+                 *describe_calibration(None if given.demand == "counts" else figures.calibration)])
     window = format_window(model)
     (folder / f"comparison-{model.name}-{window}.svg").write_text(draw_comparison(model, days), encoding="utf-8")
     (folder / f"space-time-{model.name}-{window}.svg").write_text(draw_space_time(model), encoding="utf-8")

@@ -31,7 +31,8 @@ from pathlib import Path
 from typing import Callable, NamedTuple, Sequence
 
 from ..figures.intervals import CHANCE, warn_few_days
-from ..figures.queues import WAITING_KEYS, Waits, explain_growing, explain_outflow, find_growing, find_inlets, is_shown, with_bounds
+from ..figures.queues import (WAITING_KEYS, Waits, average_lost, explain_growing, explain_lost, explain_outflow, find_growing, find_inlets,
+                              is_shown, with_bounds, with_lost)
 from ..figures.simulation import RoadRun, read_run, simulate_days
 from ..figures.table import Figure, FigureRow, choose, compare as compare_figures, list_figures, measure_day
 from ..figures.trips import Window
@@ -185,10 +186,12 @@ def run_metered(site: Site, lab: RoadLab, start: float) -> Metered:
 def run_with_queues(site: Site, lab: RoadLab, start: float) -> tuple[Metered, Queues]:
     """Run a day with metering from step `start` on. Return it with the queues before the inlets that are not metered."""
     meter, steps = site.meter(start), site.road.steps
-    queues = Queues(lab, "A", find_other_arrivals(site, lab.plan["words"]) if site.has_queue else {})
+    arrivals = find_other_arrivals(site, lab.plan["words"])
+    queues = Queues(lab, "A", arrivals if site.has_queue else {})
     run_control(lab, "A", [meter], 0, steps, advance=queues.advance)
     run = read_run(lab, "A", Window(site.road.lead, steps), [demand for _, demand in site.road.inlets], detectors=[], origin=site.road.approach)
-    return Metered(dataclasses.replace(run, waiting={inlet: queue.waiting for inlet, queue in queues.of_inlet.items()}), meter.rates), queues
+    waiting = {inlet: queue.waiting for inlet, queue in queues.of_inlet.items()}
+    return Metered(dataclasses.replace(run, waiting=waiting, arrivals={} if site.has_queue else arrivals), meter.rates), queues
 
 
 def find_other_arrivals(site: Site, seed: int | str) -> dict[int, list[int]]:
@@ -238,7 +241,8 @@ def compare_runs(site: Site, days: Sequence[Sequence[Metered]]) -> list[FigureRo
     """Return the figures over the days, without control and with it."""
     waits = list_waits(days)
     figures = [figure for figure in site.list_figures() if is_shown(figure, find_inlets(waits))]
-    return with_bounds(compare_figures(figures, [measure_day(figures, *(one.run for one in day)) for day in days]), SIDES, waits)
+    rows = compare_figures(figures, [measure_day(figures, *(one.run for one in day)) for day in days])
+    return with_lost([with_bounds(rows, SIDES, waits)], SIDES, list_lost(site, days))[0]
 
 
 def list_waits(days: Sequence[Sequence[Metered]]) -> list[list[Waits]]:
@@ -246,10 +250,16 @@ def list_waits(days: Sequence[Sequence[Metered]]) -> list[list[Waits]]:
     return [[Waits.of(one.run) for one in day] for day in days]
 
 
+def list_lost(site: Site, days: Sequence[Sequence[Metered]]) -> list[dict[str, float]]:
+    """Return the mean number of cars that each inlet loses on a day, by its place, without control and with it."""
+    return [average_lost([one.run for one in side], site.road.units) for side in zip(*days)]
+
+
 def explain_queues(site: Site, days: Sequence[Sequence[Metered]]) -> list[str]:
     """Return the sentences that the figures of queues need."""
     waits = list_waits(days)
-    return [one for one in (explain_growing(SIDES, find_growing(waits)), *explain_outflow(site.road.drivers, waits)) if one]
+    return [one for one in (explain_growing(SIDES, find_growing(waits)), *explain_outflow(site.road.drivers, waits),
+                            explain_lost(SIDES, list_lost(site, days))) if one]
 
 
 def make_table(rows: Sequence[FigureRow]) -> Table:

@@ -33,13 +33,14 @@ from ..program.errors import Fault, LabError, describe_error
 from ..program.wire import Record
 from ..reports.outputs import format_window, make_title as make_csv_title, prepare_file
 from ..reports.pictures import INLETS, Chart, Line
-from ..reports.report import MOST_SIDES, PERIOD, Side, make_flow_series, make_records, make_speed_series, make_tables, run_sides
-from ..reports.report_page import Contents, draw_demands, format_page, make_list_html
+from ..reports.report import (MOST_SIDES, PERIOD, RangeRow, Side, make_flow_series, make_range_records, make_ranges, make_records, make_speed_series,
+                              make_tables, run_sides)
+from ..reports.report_page import Contents, describe_approach, draw_demands, format_page, make_list_html
 from ..roads.demand import BeyondCapacity, find_rate
 from ..roads.freeway import Figures, Road, make_all_roads, measure_chances, to_rates, warm_up_minutes, widen_inlets, with_warm_up
-from ..roads.freeway_files import Demand
+from ..roads.freeway_files import Alternative, Demand, describe_calibration
 from ..roads.road_scripts import make_script
-from ..roads.units import HOUR, KMH, count_things, format_distance, to_km, to_steps
+from ..roads.units import HOUR, KMH, count_things, format_distance, to_steps
 from ..roads.waiting import make_waiting_roads
 from .freeway import FIGURES, report_progress
 from .measured import (Congestion, add_congestion_argument, add_count_options, add_demand_argument, check_congested, check_days, choose_factor,
@@ -50,6 +51,9 @@ DAYS = 5
 MOST_LISTED = 12
 """The number of values of a demand that the report lists in a sentence."""
 MOST_WARM_UP = 1_440
+OTHER_DAYS = ["As each run begins before the window, its days are not those of `delay` and live with the same seeds: their figures differ by chance. "
+              "--warm-up 0 gives the same days."]
+"""A remark on a report whose runs begin before the window."""
 
 
 def read_arguments(words: Sequence[str] | None) -> argparse.Namespace:
@@ -162,8 +166,33 @@ def make_sides(request: Request) -> tuple[list[Road], list[Side]]:
         report_progress(f"measuring the inflow chances for the demand of the road {name}")
         chances = measure_chances(road)
         found.append(Side(name, make_script(road, chances, wide[-1].seed), [demand for _, demand in road.inlets],
-                          make_script(road, chances, wide[-1].seed, with_works=False) if request.has_queue else None, units=road.units))
+                          make_script(road, chances, wide[-1].seed, with_works=False), request.has_queue, road.units))
     return roads, found
+
+
+def list_alternatives(request: Request) -> list[Request]:
+    """Return the requests for all roads with the drivers that fit the counts as well, or none if the roads were not calibrated together."""
+    calibration = request.figures.calibration
+    if calibration is None or any(one.calibration != calibration for one in request.others):
+        return []
+    return [dataclasses.replace(request, figures=with_drivers(request.figures, drivers), others=[with_drivers(one, drivers) for one in request.others])
+            for drivers in (calibration.less, calibration.more)]
+
+
+def with_drivers(figures: Figures, drivers: Alternative) -> Figures:
+    """Return the figures of a road with other drivers, and its demands times their factor."""
+    def times(demand: Demand) -> Demand:
+        return [(minute, cars * drivers.factor) for minute, cars in demand] if isinstance(demand, list) else demand * drivers.factor
+    return dataclasses.replace(figures, slowing=drivers.slowing, start=drivers.start, main=times(figures.main),
+                               ramps=[(km, times(demand)) for km, demand in figures.ramps])
+
+
+def describe_sureness(request: Request) -> list[str]:
+    """Return sentences that say how sure the drivers of the roads are."""
+    calibrations = {one.calibration for one in (*request.others, request.figures)}
+    if len(calibrations) > 1:
+        return ["The files have different calibrations, so this report does not show how far the figures move with drivers that fit the counts as well."]
+    return [f"{one[0].upper()}{one[1:]}." for one in describe_calibration(request.figures.calibration)]
 
 
 def describe_works(figures: Figures) -> list[str]:
@@ -185,11 +214,6 @@ def describe_works(figures: Figures) -> list[str]:
 def name_inlets(figures: Figures) -> list[tuple[str, Demand]]:
     """Return the name and the demand of each inlet."""
     return [("main road", figures.main), *((f"on-ramp at km {km:g}", demand) for km, demand in figures.ramps)]
-
-
-def describe_approach(road: Road) -> list[str]:
-    """Describe the approach, if the road has one."""
-    return [f"approach of {format_distance(to_km(road.approach))} km before km 0, where cars enter"] if road.approach else []
 
 
 def describe_demand(figures: Figures) -> list[str]:
@@ -267,7 +291,7 @@ def make_counts_html(given: argparse.Namespace, model: Model) -> str:
 
 
 def make_page(given: argparse.Namespace, request: Request, roads: Sequence[Road], sides: Sequence[Side], days: Sequence[Sequence[RoadRun]],
-              tables: Sequence[Sequence[FigureRow]], model: Model | None) -> str:
+              tables: Sequence[Sequence[FigureRow]], ranges: Sequence[RangeRow], model: Model | None) -> str:
     """Return the report as HTML."""
     figures, road, window = request.figures, roads[-1], request.window
     clock = with_warm_up(figures, request.warm).clock
@@ -277,11 +301,12 @@ def make_page(given: argparse.Namespace, request: Request, roads: Sequence[Road]
     closed = [[(window.first + to_steps(one.begin), window.first + to_steps(one.end), one.at, one.at) for one in side.stalled]
               for side in (*request.others, figures)]
     return format_page(Contents(
-        title=title, facts=[f"{format_distance(road.to_km(road.length))} km, one lane, {drivers}", *describe_approach(road), *describe_demands(request)],
+        title=title, facts=[f"{format_distance(road.to_km(road.length))} km, one lane, {drivers}", *describe_approach(road.units), *describe_demands(request)],
         demand=make_demand_chart(list_demands(request)), works=list_works(request),
         notes=road.notes, clock=clock, window=window, length=road.length, detectors=road.detectors, sides=sides, days=days,
         rows=tables[0], others=tables[1:], seed=figures.seed, closed=closed, more="" if model is None else make_counts_html(given, model),
-        remarks=explain_outflow(road.drivers, [list(map(Waits.of, runs)) for runs in days]), has_approach=given.show_approach))
+        remarks=[*OTHER_DAYS[:bool(request.warm)], *explain_outflow(road.drivers, [list(map(Waits.of, runs)) for runs in days])], ranges=ranges,
+        sure=describe_sureness(request), has_approach=given.show_approach))
 
 
 # The command
@@ -324,15 +349,20 @@ def write_report(given: argparse.Namespace, out: Path) -> None:
         report_progress("measuring the inflow chances for the comparison with counts")
         model = make_model(given.road.stem, figures, request.measured, choose_factor(given))
     roads, sides = make_sides(request)
-    report_progress(f"simulating {count_things(given.days, 'day')}")
-    bar = Bar("runs", in_log=True)
-    with open_executor(given.dask) as executor:
-        days = run_sides(sides, range(figures.seed, figures.seed + given.days), window, bar.show, executor, given.ship)
-    bar.end()
-    tables = make_tables(sides, days, window)
-    path.write_text(make_page(given, request, roads, sides, days, tables, model), encoding="utf-8")
+    each = []
+    for place, of_drivers in enumerate([sides, *(make_sides(one)[1] for one in list_alternatives(request))]):
+        report_progress(f"simulating {count_things(given.days, 'day')}" + " with drivers that fit as well" * bool(place))
+        bar = Bar("runs", in_log=True)
+        with open_executor(given.dask) as executor:
+            each.append(run_sides(of_drivers, range(figures.seed, figures.seed + given.days), window, bar.show, executor, given.ship))
+        bar.end()
+    days, *others = each
+    tables, ranges = make_tables(sides, days, window), make_ranges(sides, each, window) if others else []
+    path.write_text(make_page(given, request, roads, sides, days, tables, ranges, model), encoding="utf-8")
     title = f"{make_csv_title(given.road.stem, clock, window.steps)}, mean of {count_things(given.days, 'day')}"
     write_table(path.with_name(f"figures-{given.road.stem}-{times}.csv"), title, make_records(sides, tables))
+    if ranges:
+        write_table(path.with_name(f"calibration-{given.road.stem}-{times}.csv"), title, make_range_records(sides, ranges))
     write_table(path.with_name(f"demand-{given.road.stem}-{times}.csv"), make_csv_title(given.road.stem, clock, window.steps),
                 make_demand_records(list_demands(request)))
     series = make_series_records(request, sides, roads, days)

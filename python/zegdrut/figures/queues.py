@@ -22,7 +22,7 @@ from ..roads.units import HOUR, Units
 from ..roads.waiting import ask_edits, find_arrivals, find_main, let_wait, name_by_arrival
 from .lost import find_drivers
 from .simulation import RoadRun, read_run
-from .table import FREEWAY, Bound, Figure, FigureRow, count_lost
+from .table import FREEWAY, Bound, Figure, FigureRow, count_lost, pair_roads
 from .trips import Window, entry_inlet, entry_step
 
 WAITING_KEYS = ("wait", "wait queue", "wait end")
@@ -148,19 +148,42 @@ def explain_growing(names: Sequence[str], grow: Sequence[bool]) -> str:
     return f"Cars still wait at the end {where}: the figures of delay and waiting do not include what these cars lose later." if where else ""
 
 
-LOSING_KEYS = ("delay", "hours")
+LOSING_KEYS = ("delay", "hours", "approach hours", "together", "all hours")
 """The figures that leave out what lost cars would lose."""
+SUPPLY_KEYS = ("demand", "demand at", "admitted", "admitted at")
+"""The figures from which the lost cars follow."""
 
 
-def with_lost(rows: Sequence[FigureRow], names: Sequence[str], lost: Sequence[Mapping[str, float]]) -> list[FigureRow]:
-    """Return rows that say which figures are bounds, because roads lose cars that cannot enter. `lost` has the lost cars of each road, by the
-    place of the inlet; `names` are those of the roads."""
+def with_lost(tables: Sequence[Sequence[FigureRow]], names: Sequence[str], lost: Sequence[Mapping[str, float]]) -> list[list[FigureRow]]:
+    """Return the tables of `compare_roads` with rows that say which figures are bounds, because roads lose cars that cannot enter. `lost` has
+    the lost cars of each road, by the place of the inlet; `names` are those of the roads.
+
+    Two roads lose equally many cars if they have the same demand and admit as many cars on each day, whatever `lost` says by chance. If one
+    of them loses none, the other loses none either. If both lose cars, a difference of 0 on each day is exact: the same cars met the same
+    road."""
+    words = explain_lost(names, lost)
+    if not words:
+        return [list(rows) for rows in tables]
+    pairs = pair_roads([any(of_road.values()) for of_road in lost])
+    return [[dataclasses.replace(row, bound=find_lost_bound(row, lose, lose_equally(rows)) or row.bound, words=f"{row.words} {words}".strip())
+             if row.figure.key in LOSING_KEYS else row for row in rows] for rows, lose in zip(tables, pairs)]
+
+
+def lose_equally(rows: Sequence[FigureRow]) -> bool:
+    """Return whether two roads have the same demand and admit as many cars on each day. False if the rows do not say."""
+    supply = [row for row in rows if row.figure.key in SUPPLY_KEYS]
+    return {"demand", "admitted"} <= {row.figure.key for row in supply} and all(row.is_same for row in supply)
+
+
+def find_lost_bound(row: FigureRow, lose: Sequence[bool], equally: bool) -> Bound:
+    """Return how a figure relates to the true one, if these roads lose cars. `equally`: they lose equally many on each day."""
+    return "" if equally and (not all(lose) or row.is_same) else find_bound(lose)
+
+
+def explain_lost(names: Sequence[str], lost: Sequence[Mapping[str, float]]) -> str:
+    """Return a sentence that says how many cars each road loses at which inlet; an empty string if none."""
     parts = [f"{cars:,.0f} at {place} ({name})" for name, of_road in zip(names, lost) for place, cars in of_road.items() if cars]
-    if not parts:
-        return [*rows]
-    bound = find_bound([any(of_road.values()) for of_road in lost])
-    words = f"Cars that cannot enter are lost: {', '.join(parts)}; hours and delay leave them out."
-    return [dataclasses.replace(row, bound=bound, words=f"{row.words} {words}".strip()) if row.figure.key in LOSING_KEYS else row for row in rows]
+    return f"Cars that cannot enter are lost: {', '.join(parts)}; hours and delay leave them out." if parts else ""
 
 
 def average_lost(runs: Sequence[RoadRun], units: Units = FREEWAY) -> dict[str, float]:

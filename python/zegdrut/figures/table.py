@@ -5,13 +5,14 @@
     for row in compare(figures, days):
         print(row.figure.title, row.difference.mean, "±", row.difference.half)
 
-A figure has a value for each road, or for the change between two roads. `of` says which inlet, detector or route it belongs to. The
+A figure has a value for each road, or for the change between two roads. Of several roads, `measure_roads` and `compare_roads` compare each
+later one with the first. `of` says which inlet, detector or route it belongs to. The
 modules `trips`, `delay` and `lost` define what the figures mean.
 """
 from __future__ import annotations
 
 from dataclasses import dataclass, replace
-from typing import Callable, Literal, NamedTuple, Sequence
+from typing import Callable, Literal, NamedTuple, Sequence, TypeVar
 
 from ..program.wire import PlanLine
 from ..roads.demand import count_demand
@@ -22,6 +23,7 @@ from .lost import LEAST_AT_RAMP, Queue, measure_queue
 from .simulation import RoadRun
 from .trips import compute_delay, compute_delay_at, compute_travel_time, count_admitted_cars, count_approach_steps, count_vehicle_steps
 
+R = TypeVar("R")
 FREEWAY = Units(METRES, 1.0)
 """The usual units: a cell is 7.5 m, and a step 1 s."""
 
@@ -78,7 +80,8 @@ SHOWN = {
     "delay": ("hours", "approach hours", "wait", "wait queue", "wait end", "all hours", "through", "entered", "cars"),
     "report": ("delay", "delay at", "hours", "approach hours", "wait", "wait queue", "wait end", "all hours", "demand", "admitted", "lost", "travel",
                "flow", "speed"),
-    "live": ("delay", "delay at", "hours", "demand", "demand at", "admitted", "admitted at", "lost", "lost at", "travel", "cars", "flow", "speed", "on")}
+    "live": ("delay", "delay at", "hours", "approach hours", "all hours", "demand", "demand at", "admitted", "admitted at", "lost", "lost at",
+             "travel", "cars", "flow", "speed", "on")}
 """The keys of the figures that a page can show."""
 
 
@@ -159,7 +162,11 @@ def sum_demand(run: RoadRun) -> float:
 
 
 def count_lost(run: RoadRun, inlet: int) -> float:
-    """Return the lost demand of an inlet in the window: arrivals minus admitted cars, or demand minus admitted cars if no arrivals are known."""
+    """Return the lost demand of an inlet in the window: arrivals minus admitted cars, or demand minus admitted cars if no arrivals are known.
+
+    It is 0 if cars that cannot enter wait."""
+    if run.waiting:
+        return 0.0
     admitted = count_admitted_cars(run.trips, run.window)[inlet]
     if not run.arrivals:
         return count_demand_of(run, inlet) - admitted
@@ -169,7 +176,7 @@ def count_lost(run: RoadRun, inlet: int) -> float:
 
 def sum_lost(run: RoadRun) -> float:
     """Return the lost demand of all inlets in the window."""
-    if run.arrivals:
+    if run.arrivals or run.waiting:
         return sum(count_lost(run, inlet) for inlet in range(len(run.trips.plan["inlets"])))
     return sum_demand(run) - sum(count_admitted_cars(run.trips, run.window))
 
@@ -237,12 +244,30 @@ def list_count_figures(detector: int, place: str) -> list[Figure]:
             Figure("on", f"{place}: time on", "s", 0, lambda run: float(run.count(detector).seconds_on), of=of)]
 
 
+def list_known(tables: Sequence[Sequence[FigureRow]]) -> list[list[FigureRow]]:
+    """Return tables of the same figures without the ends of queues that are unknown on all roads, since on some day no car waits there."""
+    known = [place for place, rows in enumerate(zip(*tables)) if rows[0].figure.key != "wait end"
+             or any(mean.mean is not None for row in rows for mean in (row.before, row.after))]
+    return [[rows[place] for place in known] for rows in tables]
+
+
 # Days
 
 def measure_day(figures: Sequence[Figure], *runs: RoadRun) -> list[Value]:
     """Return the figures of a day: of one road, or of the road before and the road after."""
     *before, after = runs
     return [figure.measure(before[0] if before else None, after) for figure in figures]
+
+
+def pair_roads(roads: Sequence[R]) -> list[list[R]]:
+    """Return what is compared: the first road with each later one; or a road alone."""
+    first, *others = roads
+    return [[first, other] for other in others] or [[first]]
+
+
+def measure_roads(figures: Sequence[Figure], runs: Sequence[RoadRun]) -> list[list[Value]]:
+    """Return the figures of a day of several roads, for each pair of `pair_roads`."""
+    return [measure_day(figures, *pair) for pair in pair_roads(runs)]
 
 
 class Mean(NamedTuple):
@@ -282,7 +307,13 @@ class FigureRow:
     def may_be_chance(self) -> bool | None:
         """Return whether the interval of the difference contains 0, or None if it is unknown, or if the figure does not differ on any day."""
         mean, half = self.difference
-        return None if mean is None or half is None or mean == half == 0 else may_be_chance(Estimate(mean, half))
+        return None if mean is None or half is None or self.is_same else may_be_chance(Estimate(mean, half))
+
+    @property
+    def is_same(self) -> bool:
+        """Return whether the figure does not differ on any day."""
+        mean, half = self.difference
+        return mean == 0 and not half
 
 
 def average_days(values: Sequence[float | None]) -> Mean:
@@ -303,3 +334,14 @@ def compare(figures: Sequence[Figure], days: Sequence[Sequence[Value]]) -> list[
             row = replace(row, unpaired=estimate_unpaired(before, after).half, others=count_opposite(differences))
         rows.append(row)
     return rows
+
+
+def compare_roads(figures: Sequence[Figure], days: Sequence[Sequence[Sequence[Value]]]) -> list[list[FigureRow]]:
+    """Return a table for each road after the first one, compared with the first, or the table of a road alone. `days` are those that
+    `measure_roads` returns."""
+    return [compare(figures, values) for values in zip(*days)]
+
+
+def list_means(tables: Sequence[Sequence[FigureRow]], place: int, roads: int) -> list[Mean]:
+    """Return the means of a figure, by its place in the tables of `compare_roads`, on each of some roads."""
+    return [*([tables[0][place].before] if roads > 1 else []), *(rows[place].after for rows in tables)]

@@ -26,6 +26,11 @@ of its uncertainty:
 
 Simulated values are means over the days of a point. The flows of a day are multiplied by demand / admitted cars of that day (at most
 5 %), so that random arrivals are not mistaken for a demand factor.
+
+A point fits as well as the best within chance if its error is above the smallest by no more than the errors of single days differ: the
+standard deviation of the errors that the simulated days of a point have alone, the median of the ten best points. (The measured day is a
+single day, too.) `find_alternatives` returns those two of these points whose drivers cause the least and the most delay. The delay of a
+few days varies by chance, so the points are compared by a plane that is fitted to the logarithms of their delays over both chances.
 """
 from __future__ import annotations
 
@@ -107,13 +112,15 @@ class Search:
 
 class Misfit(NamedTuple):
     """The error of a point on a measured day, its five terms, and what they are about: the ratio of measured to simulated cars in total,
-    simulated minus measured free speed in km/h, and the logarithm of simulated by measured delay."""
+    simulated minus measured free speed in km/h, and the logarithm of simulated by measured delay. `by_seed` has the error of each simulated
+    day alone."""
 
     error: float
     ratio: float = 1.0
     terms: tuple[float, ...] = ()
     free_speed: float = 0.0
     delay: float = 0.0
+    by_seed: tuple[float, ...] = ()
 
 
 TERMS = ("total of cars", "free speed", "delay", "flows of intervals", "speeds of intervals")
@@ -263,8 +270,9 @@ def evaluate_day(name: str, figures: Figures, measured: Measured, point: Point, 
     for seed in seeds:
         day, _, admitted = simulate_day(model, seed, with_entries=True)
         days.append(day)
-        scales.append(min(max(asked / max(admitted, 1), 0.95), 1.05))
-    return compute_misfit(model, days, scales)
+        scales.append(min(max(asked / max(sum(admitted), 1), 0.95), 1.05))
+    alone = [compute_misfit(model, [day], [scale]).error for day, scale in zip(days, scales)]
+    return compute_misfit(model, days, scales)._replace(by_seed=tuple(alone))
 
 
 # The search
@@ -391,6 +399,52 @@ def calibrate(name: str, days: Sequence[MeasuredDay], bounds: Bounds = Bounds(),
     if not found:
         raise faults[0]
     return min(found, key=lambda one: one.least_error)
+
+
+# How sure the result is
+
+class Alternatives(NamedTuple):
+    """The drivers of the points that fit as well as the best within chance: the number of these points, the largest error that they may
+    have, and the two of them whose drivers cause the least and the most delay."""
+
+    points: int
+    most_error: float
+    less: Point
+    more: Point
+
+
+FLAT = 1e-9
+"""What is added to the sums of squares of a fit, so that a chance that is the same at all points has no slope."""
+
+
+LEAST_EQUAL = 3
+"""Fewer points that fit as well as the best say nothing about a range."""
+
+
+def find_alternatives(found: Calibration) -> Alternatives | None:
+    """Return the drivers that fit as well as the best within chance, or None if a point has a single simulated day or too few points fit as
+    well."""
+    later = [one for one in found.tried if one.round and math.isfinite(one.error)]
+    alone = [[math.fsum(errors) / len(errors) for errors in zip(*(day.by_seed for day in one.by_day))] for one in found.best_ten() if one in later]
+    if len(alone[0]) < 2:
+        return None
+    most = found.least_error + statistics.median(statistics.stdev(errors) for errors in alone)
+    equal = [one for one in later if one.error <= most]
+    if len(equal) < LEAST_EQUAL:
+        return None
+    delays = [math.fsum(day.delay for day in one.by_day) / len(one.by_day) for one in equal]
+    of_slowing, of_start = fit_slopes([one.point[:2] for one in equal], delays)
+    # Without any delay both slopes are 0. Then the slow-to-start chance decides, which will matter in a jam.
+    ranked = sorted((one.point for one in equal), key=lambda point: of_slowing * point.slowing + (of_start + FLAT) * point.start)
+    return Alternatives(len(equal), most, ranked[0], ranked[-1])
+
+
+def fit_slopes(places: Sequence[tuple[float, float]], values: Sequence[float]) -> Sequence[float]:
+    """Return both slopes of the plane that is fitted to values at some places by least squares."""
+    means = [math.fsum(axis) / len(places) for axis in zip(*places)]
+    offs = [[value - mean for value, mean in zip(place, means)] for place in places]
+    squares = [[math.fsum(one[i] * one[j] for one in offs) + FLAT * (i == j) for j in (0, 1)] for i in (0, 1)]
+    return solve(squares, [math.fsum(one[i] * value for one, value in zip(offs, values)) for i in (0, 1)]) or (0.0, 0.0)
 
 
 class BeyondBounds(Fault):

@@ -64,12 +64,11 @@ class Model:
         return list(range(len(self.measured.main) - 1))
 
     @property
-    def gates(self) -> list[tuple[int, int]]:
-        """Return the sign and the index of the detectors after (1) and at (-1) each inlet. The sum of their signed counts is the number
-        of cars that entered."""
+    def gates(self) -> list[list[tuple[int, int]]]:
+        """Return for each inlet the sign and the index of the detectors after (1) and at it (-1). The sum of their signed counts is the
+        number of cars that entered."""
         first = len(self.detectors)
-        return [(1, first), *((sign, first + place) for place in range(1, 2 * len(self.road.inlets) - 1)
-                              for sign in ((-1,) if place % 2 else (1,)))]
+        return [[(1, first)], *([(-1, first + 2 * ramp - 1), (1, first + 2 * ramp)] for ramp in range(1, len(self.road.inlets)))]
 
     @property
     def window_steps(self) -> int:
@@ -145,11 +144,11 @@ def make_model(name: str, figures: Figures, measured: Measured, factor: float | 
 
 # Days
 
-def simulate_day(model: Model, seed: int, with_rows: bool = False, with_entries: bool = False) -> tuple[Day, list[str], int]:
+def simulate_day(model: Model, seed: int, with_rows: bool = False, with_entries: bool = False) -> tuple[Day, list[str], list[int]]:
     """Simulate one day.
 
-    Return what passed the compared stations; with `with_rows` the rows of the window; with `with_entries` the cars that all inlets
-    admitted in the whole run."""
+    Return what passed the compared stations; with `with_rows` the rows of the window; with `with_entries` the cars that each
+    inlet admitted in the whole run."""
     edits = make_commands([*make_base_edits(model.road, model.chances), *model.road.edits])
     with RoadLab(make_plan(model.road, model.chances, seed)) as lab:
         for line in edits:
@@ -158,9 +157,8 @@ def simulate_day(model: Model, seed: int, with_rows: bool = False, with_entries:
         window = Window(model.warm, model.warm + model.window_steps)
         day = read_counts(lab, "A", model.detectors, split_window(window, model.measured.interval))
         rows = lab.diagram("A", window.first, window.last - 1) if with_rows else []
-        admitted = 0
-        for sign, detector in model.gates if with_entries else ():
-            admitted += sign * lab.count("A", detector, 0, model.road.steps).cars
+        admitted = [sum(sign * lab.count("A", detector, 0, model.road.steps).cars for sign, detector in gates)
+                    for gates in (model.gates if with_entries else ())]
     return day, rows, admitted
 
 

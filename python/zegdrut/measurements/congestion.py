@@ -29,6 +29,7 @@ from ..figures.intervals import average_known
 from ..figures.simulation import simulate_days
 from ..program.rows import Sums, add_up
 from ..roads.clock import Clock
+from ..roads.demand import Supply, count_demand
 from ..roads.units import CELLS_A_KM, HOUR, KMH, count_things
 from .comparison import Day, Model, estimate_days, simulate_day
 from .measured import Measured, Series
@@ -37,12 +38,14 @@ CONGESTED = 0.6
 """Traffic is congested below this share of the free speed."""
 FREE_SHARE = 0.85
 """The share of the measured intervals whose speed the free speed reaches or exceeds."""
-SHORTEST_JAM = 900
-"""The seconds that a jam lasts at least."""
+SHORTEST_JAM, LONG_INTERVAL = 900, 300
+"""The seconds that a jam lasts at least. In intervals below LONG_INTERVAL speeds vary so much that a jam is not congested in all of them."""
 MOST, LEAST = 2 / 3, 1 / 3
 """A jam is reproduced if at least MOST of its station intervals are congested in the simulation, and missed if fewer than LEAST are."""
 SLOWEST = 1.0
 """Lower speeds in km/h count as this one."""
+LEAST_LOST = 0.02
+"""The share of its demand that an inlet must lose: chances are accurate to 1 %."""
 NEAR = 20
 """The cells before and after a station whose cars are near it."""
 
@@ -52,11 +55,12 @@ States = list[list["bool | None"]]
 
 class JudgedDay(NamedTuple):
     """A simulated day: what passed the compared stations, and for each interval the sums over the cars near each of them and over the cars
-    on each segment."""
+    on each segment. `admitted` are the cars that entered at each inlet in the whole run."""
 
     passed: Day
     near: list[list[Sums]]
     on: list[list[Sums]]
+    admitted: Sequence[int] = ()
 
 
 class Intervals(NamedTuple):
@@ -167,6 +171,16 @@ def find_jams(states: States, interval: int) -> list[Jam]:
     return sorted((make_jam(jam) for jam in jams), key=lambda jam: (jam.begin, jam.first))
 
 
+def describe_congested_demand(measured: Measured, share: float = CONGESTED) -> list[str]:
+    """Return a sentence if the station that gives the demand is congested: what it counts then is the flow of the jam, not the demand."""
+    first, clock = measured.main[0], measured.clock
+    bound = share * (find_free_speed(first) or 0.0)
+    runs = find_runs([speed is not None and speed < bound for speed in first.speeds], math.ceil(SHORTEST_JAM / measured.interval))
+    times = " and from ".join(f"{clock.to_text(begin * measured.interval)} to {clock.to_text(end * measured.interval)}" for begin, end in runs)
+    return [f"station {first.station.name} gives the demand, and is itself congested from {times}: its counts are then what the jam lets through, "
+            "so the demand is too low. Use a station farther upstream, or a window that ends before"] if runs else []
+
+
 def make_jam(runs: Sequence[tuple[int, int, int]]) -> Jam:
     """Make a jam of runs, each with its station, its first interval and the one after its last."""
     stations, begins, ends = zip(*runs)
@@ -179,13 +193,41 @@ def describe_jams(found: Judgement, measured: Measured) -> list[str]:
     clock, names = measured.clock, [one.station.name for one in measured.main[1:]]
     if not any(state is not None for line in found.measured for state in line):
         return ["the counts have no speeds, so nothing says whether congestion is reproduced"]
-    sentences = [describe_jam(jam, found.simulated, clock, names, found.interval) for jam in find_jams(found.measured, found.interval)]
+    jams = find_jams(found.measured, found.interval)
+    sentences = [describe_jam(jam, found.simulated, clock, names, found.interval) for jam in jams]
+    told = {place for jam in jams for place in jam.places}
     for jam in find_jams(found.simulated, found.interval):
         known = [state for index, place in jam.places if (state := found.measured[index][place]) is not None]
-        if known and sum(known) < LEAST * len(known):
-            sentences.append(f"{name_jam('the simulation has a jam from', jam, clock, names, found.interval)} that was not measured")
-    return sentences or [f"no jam was measured, and none is simulated: no station is congested for {SHORTEST_JAM // 60} minutes, so these counts "
-                         "do not say whether the road jams as it should"]
+        name = name_jam("the simulation has a jam from", jam, clock, names, found.interval)
+        if not known:
+            sentences.append(f"{name}, where no speed was measured")
+        elif sum(known) < LEAST * len(known):
+            sentences.append(f"{name} that was not measured")
+        elif not told.intersection(jam.places):
+            sentences.append(f"{name}: the counts are congested in {sum(known)} of its {count_things(len(known), 'station interval')}, but never for "
+                             f"{SHORTEST_JAM // 60} minutes in a row")
+    return sentences or [describe_free_traffic(found, clock, names)]
+
+
+def describe_free_traffic(found: Judgement, clock: Clock, names: Sequence[str]) -> str:
+    """Return a sentence if there is no jam: what is congested for a shorter time."""
+    both = [describe_spells(states, clock, names, found.interval) for states in (found.measured, found.simulated)]
+    if not any(both):
+        return ("no jam was measured, and none is simulated: no station is congested in any interval, so these counts do not say whether the road jams "
+                "as it should")
+    shown = "; ".join(f"{said or 'none'} in the {where}" for said, where in zip(both, ("counts", "simulation")))
+    return (f"no jam was measured, and none is simulated: no station is congested for {SHORTEST_JAM // 60} minutes in a row. Congested station "
+            f"intervals: {shown}")
+
+
+def describe_spells(states: States, clock: Clock, names: Sequence[str], interval: int) -> str:
+    """Return the number of congested station intervals, and the longest time in a row; an empty string without any."""
+    spells = [(end - begin, index, begin) for index, line in enumerate(states) for begin, end in find_runs(line, 1)]
+    if not spells:
+        return ""
+    length, index, begin = max(spells, key=lambda spell: spell[0])
+    return (f"{sum(spell[0] for spell in spells):,} (at most {count_things(length * interval // 60, 'minute')} in a row, at station {names[index]} from "
+            f"{clock.to_text(begin * interval)} on)")
 
 
 def describe_jam(jam: Jam, simulated: States, clock: Clock, names: Sequence[str], interval: int) -> str:
@@ -202,6 +244,24 @@ def name_jam(head: str, jam: Jam, clock: Clock, names: Sequence[str], interval: 
     *others, last = names[jam.first:jam.last + 1]
     stations = f"stations {', '.join(others)} and {last}" if others else f"station {last}"
     return f"{head} {clock.to_text(jam.begin * interval)} to {clock.to_text(jam.end * interval)} at {stations}"
+
+
+# Lost cars
+
+def find_lost(model: Model, days: Sequence[JudgedDay]) -> list[Supply]:
+    """Return the demand of each inlet and the cars that it admitted, in the whole run, if more cars are lost than arrivals at random explain.
+
+    The demand is summed over the days."""
+    asked = [len(days) * count_demand(rates, 0, model.road.steps) for _, rates in model.road.inlets]
+    supplies = [Supply(cars, sum(entered)) for cars, entered in zip(asked, zip(*(day.admitted for day in days)))]
+    return [one if one.lost > max(one.scatter, LEAST_LOST * one.demand) else Supply(0.0, 0) for one in supplies]
+
+
+def describe_lost(model: Model, days: Sequence[JudgedDay]) -> list[str]:
+    """Return a sentence for each inlet at which cars are lost."""
+    return [f"{one.lost / len(days):,.0f} of {one.demand / len(days):,.0f} cars cannot enter at {model.road.units.place(cell)} and are lost: the simulated "
+            "delay and travel times leave them out. If a jam reaches km 0, give the road an approach"
+            for (cell, _), one in zip(model.road.inlets, find_lost(model, days)) if one.demand]
 
 
 # Delay and travel time
@@ -257,7 +317,7 @@ def simulate_segments(model: Model, segments: Sequence[Segment], days: int,
 
 def simulate_segment_day(model: Model, segments: Sequence[Segment], seed: int) -> JudgedDay:
     """Simulate one day."""
-    day, rows, _ = simulate_day(model, seed, with_rows=True)
+    day, rows, admitted = simulate_day(model, seed, with_rows=True, with_entries=True)
     interval = model.measured.interval
 
     def add_intervals(first: int, last: int) -> list[Sums]:
@@ -265,7 +325,7 @@ def simulate_segment_day(model: Model, segments: Sequence[Segment], seed: int) -
 
     cells = model.road.detectors[:len(model.detectors)]
     return JudgedDay(day, [add_intervals(max(cell - NEAR, 0), cell + NEAR) for cell in cells],
-                     [add_intervals(one.first, one.last) for one in segments])
+                     [add_intervals(one.first, one.last) for one in segments], admitted)
 
 
 def compare_time_lost(segments: Sequence[Segment], days: Sequence[JudgedDay], share: float = CONGESTED) -> Lost | None:

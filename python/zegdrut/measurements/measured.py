@@ -10,7 +10,7 @@ import datetime
 import math
 from collections import Counter
 from dataclasses import dataclass, field, replace
-from typing import Iterable, NamedTuple
+from typing import Iterable, NamedTuple, Sequence
 
 from ..program.errors import Fault
 from ..roads.clock import Clock
@@ -28,6 +28,8 @@ LONGEST_SHIFT, SHORTEST_SHIFT = 7_200, 600
 """The most and the fewest seconds that a clock is found to be wrong. Cars take less than this from one station to the next."""
 LEAST_GAIN = 2.0
 """Counts fit clearly better at other times if their misfit is smaller by this factor."""
+LEAST_FALL, LEAST_FAR_GAIN = 0.75, 1.25
+"""If both stations are on one side, the misfit to the nearer one must also fall by so much, and that to the other by this factor."""
 FEWEST_PAIRS = 12
 """The fewest intervals in which two stations are compared."""
 
@@ -121,11 +123,12 @@ def check_one_day(counts: Counts, clock: Clock) -> None:
 
 
 def put_on_road(counts: Counts, clock: Clock, seconds: int, origin: float | None = None, is_reversed: bool = False,
-                checks_ramps: bool = True) -> Measured:
+                checks_ramps: bool = True, gives_demand: bool = True) -> Measured:
     """Place counts on a road whose run begins when the clock does, and lasts `seconds`.
 
     origin: the km of the station table that is km 0 of the road. The default is 0, or the first main-line station if the table has miles
-    or is reversed. is_reversed: km decrease in the direction of travel. checks_ramps: compare no station after which the flow has fallen.
+    or is reversed. is_reversed: km decrease in the direction of travel. checks_ramps: compare no station after which the flow has fallen. gives_demand: the
+    first station and those of ramps give the demand, so notes say where it is not known.
 
     Fault: the counts do not fit the run, or nothing is left to compare."""
     check_one_day(counts, clock)
@@ -158,10 +161,12 @@ def put_on_road(counts: Counts, clock: Clock, seconds: int, origin: float | None
     if len(lanes_differ) > 1:
         notes.append(f"the stations have {' and '.join(map(str, lanes_differ))} lanes: the model has one lane, so it cannot show how the flow "
                      "per lane changes with the number of lanes")
-    upstream, cut, doubts = cut_at_exit(lines, ramps) if checks_ramps else (lines, "", [])
-    notes += [*doubts, *([cut] if cut else []), *find_wrong_clocks(lines, interval)]
+    clocks = find_wrong_clocks(lines, interval)
+    known, cut, doubts = cut_at_exit([one for one in lines if one.station.name not in clocks], ramps) if checks_ramps else (lines, "", [])
+    upstream = [one for one in lines if one.station.km <= known[-1].station.km] if cut else lines
+    notes += [*clocks.values(), *doubts, *([cut] if cut else [])]
     joining = [one for one in ramps if one.station.km < upstream[-1].station.km]
-    for one in (upstream[0], *joining):
+    for one in (upstream[0], *joining) if gives_demand else ():
         note_interpolated(one, clock, interval, notes)
     return Measured(clock, interval, upstream, joining, [*counts.notes, *notes], cut)
 
@@ -289,25 +294,68 @@ def check_clock_changes(counts: Counts, clock: Clock, seconds: int, notes: list[
 
 def cut_at_exit(lines: list[Series], ramps: list[Series]) -> tuple[list[Series], str, list[str]]:
     """Return the stations up to the first one after which the flow falls by more than counting error, a sentence if there is one, and
-    sentences on stations that count more than both neighbours. The flow of these may also rise and fall at ramps without a station."""
-    doubts = []
+    sentences on stations that count more or less than both neighbours, and on a flow that rises without a ramp. The flow may also rise and
+    fall at ramps without a station."""
+    doubts, doubted = list[str](), set[str]()
     for place, (one, following) in enumerate(zip(lines, lines[1:])):
-        expected, after = compare_flows(one, following, ramps)
-        if not differs(expected, after):
+        before, after = lines[place - 1] if place else None, lines[place + 2] if place + 2 < len(lines) else None
+        expected, counted = compare_flows(one, following, ramps)
+        if differs(counted, expected) and one.station.name not in doubted and (after is None or differs(*compare_flows(one, after, ramps)[::-1])):
+            doubts.append(describe_rise(one, following, expected, counted, ramps, is_first=before is None, is_last=after is None))
+        if not differs(expected, counted):
             continue
-        if place and is_too_high(lines[place - 1], one, following, ramps):
-            doubts.append(f"station {one.station.name} (km {one.station.km:g}) counts {100 * (expected / after - 1):.0f} % more than the stations "
-                          f"before and after it, {lines[place - 1].station.name} and {following.station.name}: cars join before it and leave "
-                          f"after it, which the counts do not show, or {one.station.name} over-counts. In the second case use "
-                          f"{suggest_correction(one, expected, after)}")
-            continue
-        return lines[:place + 1], (
-            f"from station {one.station.name} (km {one.station.km:g}) to {following.station.name} (km {following.station.km:g}) "
-            f"the flow per lane falls from {expected:.0f} to {after:.0f} cars, as at an off-ramp, which the model does not have. "
-            f"Only stations up to {one.station.name} are compared."
-            + (f" If there is no off-ramp, {one.station.name} over-counts: then use {suggest_correction(one, expected, after)}."
-               if after >= LEAST_FACTOR * expected else "") + " To compare all stations use --no-ramp-check"), doubts
+        if before is not None and is_too_high(before, one, following, ramps):
+            doubts.append(describe_odd(one, before, following, counted / expected))
+            doubted.add(one.station.name)
+        elif after is not None and not differs(*compare_flows(one, after, ramps)):
+            doubts.append(describe_odd(following, one, after, expected / counted))
+            doubted.add(following.station.name)
+        else:
+            return lines[:place + 1], describe_fall(one, following, expected, counted, ramps, is_first=before is None, is_last=after is None), doubts
     return lines, "", doubts
+
+
+def describe_odd(one: Series, before: Series, after: Series, factor: float) -> str:
+    """Return a sentence on a station that counts more or less than both neighbours. `factor` corrects its counts."""
+    name, (there, first, then) = one.station.name, ("more", "join", "leave") if factor < 1 else ("less", "leave", "join")
+    return (f"station {name} (km {one.station.km:g}) counts {100 * abs(1 / factor - 1):.0f} % {there} than the stations before and after it, "
+            f"{before.station.name} and {after.station.name}: cars {first} before it and {then} after it, which the counts do not show, or "
+            f"{name} {'over' if factor < 1 else 'under'}-counts. In the second case use {suggest_correction(one, factor)}")
+
+
+def suspect_ramp(one: Series, following: Series, expected: float, counted: float, ramps: list[Series]) -> list[str]:
+    """Return what explains that the flow after a ramp is not that before it and of the ramp together: that the station of the ramp, if there is a
+    single one, counts too many cars or too few."""
+    between = [ramp for ramp in ramps if one.station.km <= ramp.station.km < following.station.km]
+    if len(between) != 1:
+        return []
+    joined = expected - compare_flows(one, following, [])[0]
+    factor = (joined + counted - expected) / max(joined, 1.0)
+    name = between[0].station.name
+    return [f"perhaps the ramp station {name} {'over' if factor < 1 else 'under'}-counts: then use --scale {name}={factor:.3f}"] * (
+        LEAST_FACTOR <= factor <= 1 / LEAST_FACTOR)
+
+
+def describe_rise(one: Series, following: Series, expected: float, counted: float, ramps: list[Series], is_first: bool, is_last: bool) -> str:
+    """Return a sentence on a flow that rises although no ramp with a station joins."""
+    readings = [f"{one.station.name} under-counts: then use {suggest_correction(one, counted / expected)}"] * is_first
+    readings += [f"{following.station.name} over-counts: then use {suggest_correction(following, expected / counted)}"] * is_last
+    readings = readings or [f"the stations up to {one.station.name} under-count, or those from {following.station.name} on over-count"]
+    readings += suspect_ramp(one, following, expected, counted, ramps)
+    return (f"from station {one.station.name} (km {one.station.km:g}) to {following.station.name} (km {following.station.km:g}) the flow per lane "
+            f"rises from {expected:.0f} to {counted:.0f} cars, more than the on-ramp stations count. If the road has no other on-ramp there, "
+            + ", or ".join(readings))
+
+
+def describe_fall(one: Series, following: Series, expected: float, counted: float, ramps: list[Series], is_first: bool, is_last: bool) -> str:
+    """Return a sentence on a flow that falls, and what it may mean."""
+    readings = [f"{one.station.name} over-counts: then use {suggest_correction(one, counted / expected)}"] * is_first
+    readings += [f"{following.station.name} under-counts: then use {suggest_correction(following, expected / counted)}"] * is_last
+    readings += suspect_ramp(one, following, expected, counted, ramps)
+    reading = f" If there is no off-ramp, {', or '.join(readings)}." if readings and counted >= LEAST_FACTOR * expected else ""
+    return (f"from station {one.station.name} (km {one.station.km:g}) to {following.station.name} (km {following.station.km:g}) "
+            f"the flow per lane falls from {expected:.0f} to {counted:.0f} cars, as at an off-ramp, which the model does not have. "
+            f"Only stations up to {one.station.name} are compared.{reading} To compare all stations use --no-ramp-check")
 
 
 def compare_flows(one: Series, following: Series, ramps: list[Series]) -> tuple[float, float]:
@@ -328,37 +376,45 @@ def is_too_high(before: Series, one: Series, following: Series, ramps: list[Seri
     return differs(counted, expected) and not differs(*compare_flows(before, following, ramps))
 
 
-def suggest_correction(one: Series, expected: float, after: float) -> str:
-    """Return the options that correct a station that over-counts."""
-    return f"--leave-out {one.station.name} or --scale {one.station.name}={after / expected:.3f}"
+def suggest_correction(one: Series, factor: float) -> str:
+    """Return the options that correct the counts of a station, if its factor is in range, or else leave it out."""
+    scale = f" or --scale {one.station.name}={factor:.3f}" if LEAST_FACTOR <= factor <= 1 / LEAST_FACTOR else ""
+    return f"--leave-out {one.station.name}{scale}"
 
 
-def find_wrong_clocks(lines: list[Series], interval: int) -> list[str]:
-    """Return a sentence for each station whose counts fit those of both neighbours much better at other times, and of a first or last
-    station those of the two next ones."""
-    found = []
+def find_wrong_clocks(lines: list[Series], interval: int) -> dict[str, str]:
+    """Return a sentence for each station, by its name, whose counts fit those of both neighbours much better at other times. A first or
+    last station is compared with the two next ones."""
+    found = {}
     for place, one in enumerate(lines):
-        others = [*lines[max(place - 1, 0):place], *lines[place + 1:place + 2]]
-        if len(others) == 1:
-            others = lines[1:3] if place == 0 else lines[-3:-1]
-        shifts = [find_shift(one, other, interval) for other in others]
-        if len(shifts) == 2 and min(shifts) * max(shifts) > 0 and max(shifts) - min(shifts) <= 1:
-            shift = min(range(min(shifts), max(shifts) + 1), key=lambda shift: math.fsum(compute_misfit(one, other, shift) for other in others))
+        is_between = 0 < place < len(lines) - 1
+        others = [lines[place - 1], lines[place + 1]] if is_between else lines[1:3] if place == 0 else lines[-2:-4:-1]
+        shift = find_shift(one, others, interval, is_between) if len(others) == 2 else 0
+        if shift:
             minutes = abs(shift) * interval // 60
-            names = " and ".join(other.station.name for other in others)
-            found.append(f"the clock of station {one.station.name} seems to be {minutes} minutes {'fast' if shift > 0 else 'slow'}: its counts fit those "
-                         f"of {names} best {minutes} minutes {'earlier' if shift > 0 else 'later'}. Check it, and correct the times or use "
-                         f"--leave-out {one.station.name}")
+            names = " and ".join(other.station.name for other in sorted(others, key=lambda other: other.station.km))
+            found[one.station.name] = (
+                f"the clock of station {one.station.name} seems to be about {minutes} minutes {'fast' if shift > 0 else 'slow'}: its counts fit those "
+                f"of {names} best {minutes} minutes {'earlier' if shift > 0 else 'later'}. Check it, and correct the times or use "
+                f"--leave-out {one.station.name}")
     return found
 
 
-def find_shift(one: Series, other: Series, interval: int) -> int:
-    """Return by how many intervals the counts of a station lag behind those of another, or 0 if they fit about as well without a lag."""
+def find_shift(one: Series, others: Sequence[Series], interval: int, is_between: bool) -> int:
+    """Return by how many intervals the counts of a station lag behind those of two others, or 0 if they fit about as well without a lag.
+
+    Between two stations, cars come later from the one and earlier to the other, so both must clearly show the lag. If both are on one side,
+    the nearer one shows it, and the other must have about the same."""
     most = min(LONGEST_SHIFT // interval, len(one.cars) // 3)
-    misfits = {shift: compute_misfit(one, other, shift) for shift in range(-most, most + 1)}
-    best = min(misfits, key=lambda shift: (misfits[shift], abs(shift)))
-    is_clear = abs(best) * interval >= SHORTEST_SHIFT and misfits[0] > LEAST_GAIN * misfits[best]
-    return best if is_clear else 0
+    misfits = [{shift: compute_misfit(one, other, shift) for shift in range(-most, most + 1)} for other in others]
+    near, far = (min(found, key=lambda shift: (found[shift], abs(shift))) for found in misfits)
+    if abs(near - far) > 1 or near * far <= 0 or abs(near) * interval < SHORTEST_SHIFT or misfits[0][0] <= LEAST_GAIN * misfits[0][near]:
+        return 0
+    if is_between:
+        is_clear = abs(far) * interval >= SHORTEST_SHIFT and misfits[1][0] > LEAST_GAIN * misfits[1][far]
+        return min((near, far), key=lambda shift: math.fsum(found[shift] for found in misfits)) if is_clear else 0
+    is_clear = misfits[0][0] - misfits[0][near] > LEAST_FALL and misfits[1][0] > LEAST_FAR_GAIN * misfits[1][far]
+    return near if is_clear else 0
 
 
 def compute_misfit(one: Series, other: Series, shift: int) -> float:

@@ -82,8 +82,9 @@ def add_up_cells(cells: bytes) -> Sums:
 
 BEFORE, AFTER = len('{"rows":["'), len('","')
 """The bytes before the first row of a reply, and the bytes after each row."""
-AT_ONCE = 64
-"""The rows that are added up at once, so that they stay in the processor's cache."""
+AT_ONCE, MOST_AT_ONCE = 64, 4_096
+"""The rows that are added up at once, so that they stay in the processor's cache; more if only a part of each is added up, but at most so
+many that the speeds of a cell fit in 16 bits."""
 
 
 class Rows(NamedTuple):
@@ -110,8 +111,9 @@ class Rows(NamedTuple):
             starts = range(BEFORE, len(self.line), self.length + AFTER)
             return add_up_cells(b"".join(self.line[start + begin:start + end] for start in starts))
         table, cars, speeds = numpy.frombuffer(self.line, dtype=numpy.uint8, offset=BEFORE).reshape(self.size(), -1)[:, begin:end], 0, 0
-        for start in range(0, len(table), AT_ONCE):
-            values = table[start:start + AT_ONCE] - ord("0")  # (unsigned: other characters become large numbers)
+        at_once = min(AT_ONCE * self.length // max(end - begin, 1), MOST_AT_ONCE)
+        for start in range(0, len(table), at_once):
+            values = table[start:start + at_once] - ord("0")  # (unsigned: other characters become large numbers)
             are_cars = values <= FASTEST
             values *= are_cars
             cars += int(numpy.count_nonzero(are_cars))

@@ -9,12 +9,13 @@ from __future__ import annotations
 import functools
 from concurrent.futures import Executor
 from dataclasses import dataclass
-from typing import Callable, Sequence
+from typing import Callable, NamedTuple, Sequence
 
 from ..figures.intervals import average_known
 from ..figures.queues import Waits, average_lost, find_inlets, is_shown, run_day, with_bounds, with_lost
 from ..figures.simulation import RoadRun, simulate_days, split_window
-from ..figures.table import FREEWAY, FigureRow, Mean, average_days, compare, list_shown, measure_day
+from ..figures.table import (FREEWAY, Bound, Figure, FigureRow, average_days, compare_roads, list_known, list_means, list_shown, measure_roads,
+                             pair_roads)
 from ..figures.trips import Window
 from ..program.scripts import Script
 from ..program.wire import Record
@@ -64,6 +65,45 @@ def run_sides(sides: Sequence[Side], seeds: Sequence[int | str], window: Window,
 
 # The table
 
+class Range(NamedTuple):
+    """The least and the greatest value of a figure with different drivers. None is unknown."""
+
+    low: float | None = None
+    high: float | None = None
+
+
+@dataclass(frozen=True)
+class RangeRow:
+    """The ranges of a figure with drivers that fit measured counts as well: on each road, and of its difference from the first road on each
+    later one."""
+
+    figure: Figure
+    roads: list[Range]
+    differences: list[Range]
+    bound: Bound = ""
+    """How the true differences relate to these, if they are not equal with some drivers."""
+
+
+def make_ranges(sides: Sequence[Side], each: Sequence[Sequence[Sequence[RoadRun]]], window: Window) -> list[RangeRow]:
+    """Return how far each figure moves with different drivers. `each` has for each kind of drivers the runs of all sides on each day."""
+    inlets = find_inlets([list(map(Waits.of, runs)) for days in each for runs in days])
+    found = []
+    for same in zip(*(list(zip(*make_whole_tables(sides, days, window, inlets))) for days in each)):
+        # `same` has for each kind of drivers the rows of one figure in all tables.
+        places = range(len(same[0]))
+        roads = [[rows[0].before.mean for rows in same]] * (len(sides) > 1) + [[rows[place].after.mean for rows in same] for place in places]
+        differences = [[rows[place].difference.mean for rows in same] for place in places] if len(sides) > 1 else []
+        found.append(RangeRow(same[0][0].figure, list(map(find_range, roads)), list(map(find_range, differences)),
+                              next((row.bound for rows in same for row in rows if row.bound), "")))
+    return [row for row in found if row.figure.key != "wait end" or any(one.low is not None for one in row.roads)]
+
+
+def find_range(values: Sequence[float | None]) -> Range:
+    """Return the least and the greatest of some values, or an unknown range if one is unknown."""
+    known = [value for value in values if value is not None]
+    return Range(min(known), max(known)) if len(known) == len(values) else Range()
+
+
 def make_table(sides: Sequence[Side], days: Sequence[Sequence[RoadRun]], window: Window) -> list[FigureRow]:
     """Return the figures of one road or two over all days. Those of cars that wait before the road are left out if nobody waits."""
     return make_tables(sides, days, window)[0]
@@ -71,24 +111,19 @@ def make_table(sides: Sequence[Side], days: Sequence[Sequence[RoadRun]], window:
 
 def make_tables(sides: Sequence[Side], days: Sequence[Sequence[RoadRun]], window: Window) -> list[list[FigureRow]]:
     """Return a table for each road after the first one, compared with the first, or the table of a road alone. All have the same figures."""
+    return list_known(make_whole_tables(sides, days, window, find_inlets([list(map(Waits.of, runs)) for runs in days])))
+
+
+def make_whole_tables(sides: Sequence[Side], days: Sequence[Sequence[RoadRun]], window: Window, inlets: frozenset[int]) -> list[list[FigureRow]]:
+    """Return the tables of `make_tables` with the queues before some inlets, and also with figures that are not known."""
     waits = [list(map(Waits.of, runs)) for runs in days]
-    inlets = find_inlets(waits)
     units = sides[0].units
     figures = [figure for figure in list_shown("report", sides[0].script.plan, units) if is_shown(figure, inlets, units)
                and (figure.of_change is None or len(sides) > 1)]
-    pairs = [[0, place] for place in range(1, len(sides))] or [[0]]
-    tables = []
-    for places in pairs:
-        names = [sides[place].name for place in places]
-        rows = compare(figures, [measure_day(figures, *(runs[place] for place in places)) for runs in days])
-        tables.append(with_lost(with_bounds(rows, names, [[day[place] for place in places] for day in waits]), names,
-                                [average_lost([runs[place] for runs in days], units) for place in places]))
-    return tables
-
-
-def list_means(tables: Sequence[Sequence[FigureRow]], place: int, sides: int) -> list[Mean]:
-    """Return the means of a figure, by its place in the tables, on each of some roads."""
-    return [*([tables[0][place].before] if sides > 1 else []), *(rows[place].after for rows in tables)]
+    names = [side.name for side in sides]
+    tables = [with_bounds(rows, pair, growing) for rows, pair, *growing in zip(
+        compare_roads(figures, [measure_roads(figures, runs) for runs in days]), pair_roads(names), *(pair_roads(day) for day in waits))]
+    return with_lost(tables, names, [average_lost(runs, units) for runs in zip(*days)])
 
 
 def make_records(sides: Sequence[Side], tables: Sequence[Sequence[FigureRow]]) -> list[Record]:
@@ -107,6 +142,13 @@ def make_records(sides: Sequence[Side], tables: Sequence[Sequence[FigureRow]]) -
                 record[f"bound {side.name}" if len(sides) > 2 else "bound"] = rows[place].bound
         found.append(record)
     return found
+
+
+def make_range_records(sides: Sequence[Side], ranges: Sequence[RangeRow]) -> list[Record]:
+    """Return ranges as records for `pandas.DataFrame`."""
+    names = [*(side.name for side in sides), *(f"difference {side.name}" if len(sides) > 2 else "difference" for side in sides[1:])]
+    return [{"figure": row.figure.title, **{f"{name}, {end}": value for name, found in zip(names, (*row.roads, *row.differences))
+                                            for end, value in zip(("from", "to"), found)}, "bound": row.bound} for row in ranges]
 
 
 # Series

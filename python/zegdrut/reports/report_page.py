@@ -12,14 +12,14 @@ from typing import Sequence
 
 from ..figures.intervals import CHANCE, FEW_DAYS, warn_few_days
 from ..figures.simulation import RoadRun
-from ..figures.table import FigureRow
+from ..figures.table import FigureRow, list_means
 from ..figures.trips import Window
 from ..program.programs import program_path, read_record, sum_file
 from ..roads.clock import Clock
 from ..roads.demand import Rates
-from ..roads.units import Units, count_things, format_fixed, to_km
+from ..roads.units import Units, count_things, format_distance, format_fixed, to_km
 from .pictures import AFTER, INLETS, ROADS, Chart, Line, draw_field, draw_scale, make_speed_field
-from .report import PERIOD, Side, list_means, make_flow_series, make_speed_series
+from .report import PERIOD, Range, RangeRow, Side, make_flow_series, make_speed_series
 
 CELLS_A_PIECE, STEPS_A_PIECE = 7, 30
 NO_SPEED_BANDS = ('<p class="note">The charts of speeds have no intervals: on some days no car may pass in a period, and such a day has no '
@@ -72,6 +72,10 @@ class Contents:
     """The rows of further roads. `rows` compares the second road with the first, and each of these a further road with the first."""
     remarks: Sequence[str] = ()
     """Sentences that the table of figures needs."""
+    ranges: Sequence[RangeRow] = ()
+    """How far the figures move with drivers that fit measured counts as well, if the road was calibrated."""
+    sure: Sequence[str] = ()
+    """Sentences that say how sure the drivers are."""
     has_approach: bool = False
     """Whether the space-time diagrams show the approach, too."""
 
@@ -81,9 +85,10 @@ class Contents:
         return self.sides[0].units
 
 
-def make_table_html(sides: Sequence[Side], tables: Sequence[Sequence[FigureRow]], days: int, remarks: Sequence[str] = ()) -> str:
+def make_table_html(sides: Sequence[Side], tables: Sequence[Sequence[FigureRow]], days: int, remarks: Sequence[str] = (),
+                    has_ranges: bool = False) -> str:
     """Return the tables of figures as HTML, with remarks below them: one table for two roads, or one of several roads and one of their
-    differences."""
+    differences. has_ranges: the table of calibration follows."""
     has_own_table = len(sides) > 2
     heads = [[side.name, "±"] for side in sides]
     differences = [[side.name if has_own_table else "difference", "±", ""] for side in sides[1:]]
@@ -102,13 +107,31 @@ def make_table_html(sides: Sequence[Side], tables: Sequence[Sequence[FigureRow]]
         if not has_own_table or any(mean.mean is not None for mean in means):
             lines.append([title, *cells, *([] if has_own_table else more)])
     said = ("± is half the 95 % interval of the mean (Student's t), in the unit of its row; for the difference it is paired by day. "
+            "All days have the same demand and kind of drivers, so ± does not include how demand differs from day to day, nor how well the drivers "
+            f"are known{': the table of calibration shows that' * has_ranges}. "
             f"“{CHANCE}”: the interval of the difference contains 0; a figure that does not differ on any day has no remark. A speed is the mean of the days' time-mean speeds." if days > 1
             else "One day has no interval.")
-    words = [escape(one) for one in [*sorted({row.words for rows in tables for row in rows if row.words}), *remarks]]
+    words = [escape_text(one) for one in [*sorted({row.words for rows in tables for row in rows if row.words}), *remarks]]
     mean = f"mean of {days} days" if days > 1 else "one day"
     head = [mean, *(cell for one in heads for cell in one), *([] if has_own_table else [cell for one in differences for cell in one])]
     second = make_grid_html([f"difference from {sides[0].name}", *(cell for one in differences for cell in one)], others) if has_own_table else ""
     return f'{make_grid_html(head, lines)}{second}<p class="note">{" ".join([said, *words])}</p>'
+
+
+def make_ranges_html(sides: Sequence[Side], ranges: Sequence[RangeRow], days: int, sentences: Sequence[str]) -> str:
+    """Return the table of how far figures move with drivers that fit as well, and sentences on these drivers, as HTML."""
+    head = ["calibration: from .. to", *(side.name for side in sides),
+            *(f"difference of {side.name}" if len(sides) > 2 else "difference" for side in sides[1:])]
+    lines = [[f"{row.figure.title} ({row.bound})" if row.bound else row.figure.title,
+              *(format_range(one, row.figure.digits) for one in (*row.roads, *row.differences))] for row in ranges]
+    said = [f"From the least to the greatest mean of {count_things(days, 'day')} with the drivers of the file and with two others that fit the counts as "
+            "well within chance: those with the least and the most delay."] * bool(ranges)
+    return (make_grid_html(head, lines) if ranges else "") + f'<p class="note">{" ".join(map(escape, [*said, *sentences]))}</p>' * bool(said or sentences)
+
+
+def format_range(found: Range, digits: int) -> str:
+    """Return a range for a table; an empty string if it is unknown."""
+    return "" if found.low is None else f"{format_fixed(found.low, digits, ',')} to {format_fixed(found.high, digits, ',')}"
 
 
 def mark_title(row: FigureRow) -> str:
@@ -202,13 +225,19 @@ def format_page(contents: Contents) -> str:
         f"<h2>Flow and speed by time, each {PERIOD // 60} minutes, {f'mean of {days} days' if days > 1 else 'one day'}</h2>"
         + (NO_BANDS if 1 < days < FEW_DAYS else NO_SPEED_BANDS if days >= FEW_DAYS else "") + make_charts_html(contents)
         if contents.detectors else "",
-        f"<h2>Figures, {times}</h2>{make_table_html(contents.sides, [contents.rows, *contents.others], days, contents.remarks)}",
+        f"<h2>Figures, {times}</h2>{make_table_html(contents.sides, [contents.rows, *contents.others], days, contents.remarks, bool(contents.ranges))}"
+        + make_ranges_html(contents.sides, contents.ranges, days, contents.sure),
         contents.more, "<h2>What the model does not have</h2>" + make_list_html(MISSING),
-        f'<p class="note">Seeds {seeds}; program {escape(describe_program())}. Delay is the time that the cars of both roads spend on the road '
-        "in this window, after minus before; lost demand is demand minus admitted cars, and varies by chance by "
+        f'<p class="note">Seeds {seeds}; program {escape(describe_program())}. Delay is the time that the cars of both roads spend on the road, '
+        "and before it if the table says that they wait, in this window, after minus before; lost demand is demand minus admitted cars, and varies by chance by "
         "about twice the square root of the demand.</p>"]
     return (f'<!DOCTYPE html>\n<html lang="en"><head><meta charset="utf-8"><title>{escape(contents.title)}</title><style>{STYLE}</style></head>'
             f'<body>{"".join(parts)}</body></html>\n')
+
+
+def describe_approach(units: Units) -> list[str]:
+    """Describe the approach, if the road has one."""
+    return [f"approach of {format_distance(to_km(units.origin))} km before km 0, where cars enter"] if units.origin else []
 
 
 def describe_window(contents: Contents) -> str:

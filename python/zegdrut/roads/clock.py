@@ -119,8 +119,8 @@ class Clock:
         """Return the clock time of a step with the date and the offset from UTC, if they are known."""
         local = self.to_datetime(step)
         if self.date is None:
-            days = f" (day {(self.begin + step) // DAY + 1})" if self.begin + step >= DAY else ""
-            return self.to_text(step) + days
+            day = (self.begin + step) // DAY + 1
+            return self.to_text(step) + (f" (day {day})" if day != 1 else "")
         return local.isoformat(sep=" ", timespec="seconds" if local.second else "minutes")
 
     def shift(self, steps: int) -> Clock:

@@ -41,6 +41,25 @@ class Stalled(NamedTuple):
     end: float
 
 
+class Alternative(NamedTuple):
+    """Drivers that fit measured counts as well as those of the file, within chance: their slowing chance and slow-to-start chance, their
+    demand divided by that of the file, and the delay that they cause on the calibrated day in vehicle hours per lane."""
+
+    slowing: float
+    start: float
+    factor: float
+    delay: float
+
+
+class Calibrated(NamedTuple):
+    """The field that `calibrate` writes into a file: the delay that the drivers of the file cause on the calibrated day in vehicle hours per
+    lane, and of the drivers that fit as well those with the least and the most delay."""
+
+    delay: float
+    less: Alternative
+    more: Alternative
+
+
 Demand = Union[float, "list[tuple[float, float]]"]
 """Cars per hour: one number, or a list of (minute, cars per hour), each in force until the next."""
 
@@ -76,6 +95,8 @@ class Figures:
     """The km at the beginning of the road where nobody is slowed; None: 0, or ENTRY if the inlet needs it (`freeway.widen_inlet`)."""
     approach: float = 0.0
     """The km of road before km 0, on which a queue has room."""
+    calibration: Calibrated | None = None
+    """How sure the drivers are, if `calibrate` wrote the file."""
     lead: float = 0.0
     """The minutes of the run before the minute 0 of the file. A file cannot set it."""
     source: Path | None = field(default=None, compare=False)
@@ -154,6 +175,8 @@ class Reader:
         """Read a field. Fault: it is invalid."""
         if name in ("zone", "start", "entry") and value is None:
             return None
+        if name == "calibration":
+            return self.calibration(value)
         if name in NUMBERS:
             return self.number(name, value)
         if name == "main":
@@ -179,6 +202,17 @@ class Reader:
                 or name in ("slowing", "start") and not 0 <= value <= 1 or name in ("entry", "approach") and value < 0:
             raise self.fault(name, value, NUMBERS[name])
         return value
+
+    def calibration(self, value: Json) -> Calibrated:
+        """Read what `calibrate` wrote. Fault: it is something else."""
+        fields = Calibrated._fields
+        given = value if isinstance(value, dict) and set(value) == set(fields) else {}
+        both = [one for one in (given.get("less"), given.get("more")) if isinstance(one, dict) and set(one) == set(Alternative._fields)]
+        numbers = [given.get("delay"), *(number for one in both for number in one.values())]
+        if len(both) < 2 or not all(is_number(number) and number >= 0 for number in numbers):
+            raise self.fault("calibration", value, "what `calibrate` wrote: leave the field out, or calibrate the road again")
+        less, more = (Alternative(**cast("dict[str, float]", one)) for one in both)
+        return Calibrated(cast(float, given["delay"]), less, more)
 
     def read_record(self, kind: type[Placed], given: Json, name: str) -> Placed:
         """Read a section or a stalled car, from a list or an object. Times become minutes."""
@@ -220,14 +254,21 @@ class Reader:
         return cut_profile(pairs, self.minutes)
 
     def read_minutes(self, name: str, times: Sequence[Json]) -> list[float]:
-        """Read the times of a profile. They may be before the run or after it. Fault: none is in the run."""
+        """Read the times of a profile. They may be before the run or after it. Fault: the profile has no demand for the run."""
         minutes = [self.clock.to_step(time, name) / 60 for time in times]
-        if not any(0 <= minute < self.minutes for minute in minutes):
-            raise self.fault(name, times[0], f"in the run, which lasts from {self.clock.to_text(0)} to {self.clock.to_text(to_steps(self.minutes))}"
-                             + ' (is "begin" missing?)' * (self.base.begin is None))
         # The clock puts a time before the beginning on the next day, after the times that follow it.
         before = max((place for place, (one, following) in enumerate(zip(minutes, minutes[1:]), 1) if one >= self.minutes and following < one), default=0)
+        if not before and min(minutes) >= self.minutes:
+            if not self.lasts_into_run(times, minutes):
+                raise self.fault(name, times[0], f"in the run, which lasts from {self.clock.to_text(0)} to {self.clock.to_text(to_steps(self.minutes))}"
+                                 + ' (is "begin" missing?)' * (self.base.begin is None))
+            before = len(minutes)
         return [minute - DAY / 60 if place < before else minute for place, minute in enumerate(minutes)]
+
+    @staticmethod
+    def lasts_into_run(times: Sequence[Json], minutes: Sequence[float]) -> bool:
+        """Return whether the run begins in the last interval of a profile of clock times, which is as long as the one before it."""
+        return len(times) > 1 and all(isinstance(time, str) for time in times) and 2 * minutes[-1] - minutes[-2] > DAY / 60
 
     def rate(self, name: str, value: Json) -> float:
         """Read cars per hour. Fault: it is not a number, or negative."""
@@ -293,11 +334,27 @@ def write_road(path: Path, source: Path, figures: Figures) -> None:
     found: dict[str, Json] = {
         **json.loads(source.read_text(encoding="utf-8")), "limit": figures.limit, "main": write_demand(figures.main), "slowing": figures.slowing,
         "ramps": [[km, write_demand(demand)] for km, demand in figures.ramps], "detectors": [*figures.detectors]}
-    more = (("start", figures.start), ("entry", figures.entry), ("date", figures.date))
+    found.pop("calibration", None)  # (that of other drivers)
+    sure: Json = None if figures.calibration is None else {
+        "delay": figures.calibration.delay, "less": figures.calibration.less._asdict(), "more": figures.calibration.more._asdict()}
+    more: tuple[tuple[str, Json], ...] = (("start", figures.start), ("entry", figures.entry), ("date", figures.date), ("calibration", sure))
     found.update({name: value for name, value in more if value is not None})
     path.parent.mkdir(parents=True, exist_ok=True)
     path.write_text("{" + ",\n ".join(f"{json.dumps(name)}: {json.dumps(value, ensure_ascii=False)}" for name, value in found.items())
                     + "}\n", encoding="utf-8")
+
+
+def describe_calibration(calibration: Calibrated | None) -> list[str]:
+    """Return a sentence that says how sure the drivers of a calibrated road are."""
+    return [] if calibration is None else [
+        f"calibration: {format_range(calibration)} vehicle hours of delay per lane on the calibrated day by drivers that fit its counts equally well "
+        f"within chance, and {calibration.delay:.1f} by those of the file: ± does not include this"]
+
+
+def format_range(calibration: Calibrated) -> str:
+    """Return the delays of drivers that fit equally well, from the least to the most."""
+    low, *_, high = sorted((calibration.delay, calibration.less.delay, calibration.more.delay))
+    return f"{low:.1f} to {high:.1f}"
 
 
 def write_time(clock: Clock, step: int) -> Json:

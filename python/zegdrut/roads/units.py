@@ -45,6 +45,10 @@ class Units(NamedTuple):
     origin: int = 0
     begin: int = 0
 
+    def to_km(self, cell: int) -> float:
+        """Return the km at which a cell of the usual length begins."""
+        return to_km(cell - self.origin)
+
     def place(self, cell: int) -> str:
         """Return where a cell is: "km 0.375", or "cell 50" if the length of a cell is unknown."""
         return f"{'km' if self.metres else 'cell'} {self.place_value(cell)}"

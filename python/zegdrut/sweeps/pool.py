@@ -11,6 +11,7 @@ import multiprocessing
 import os
 import signal
 import sys
+import threading
 import time
 from collections import deque
 from multiprocessing.connection import Connection, wait
@@ -81,6 +82,7 @@ def serve(work: Callable[[Job], object], jobs: Sequence[Job], pipe: Connection, 
     """Run the jobs whose indexes arrive. Ctrl-C is handled by the parent process only."""
     signal.signal(signal.SIGINT, signal.SIG_IGN)
     signal.signal(signal.SIGTERM, lambda *_: sys.exit(1))
+    threading.Thread(target=end_with_parent, daemon=True).start()
     for stranger in strangers:
         stranger.close()  # (otherwise this process keeps pipes open, and other processes wait for their end)
     while True:
@@ -100,6 +102,14 @@ def serve(work: Callable[[Job], object], jobs: Sequence[Job], pipe: Connection, 
             return
         except Exception as fault:  # (any error of pickling)
             pipe.send(Outcome(job, None, f"the result cannot be sent to the parent process: {fault}"))
+
+
+def end_with_parent() -> None:
+    """End this process once its parent has ended, even during a job."""
+    parent = multiprocessing.parent_process()
+    if parent is not None:
+        parent.join()
+        os.kill(os.getpid(), signal.SIGTERM)
 
 
 def count_processors() -> int:
