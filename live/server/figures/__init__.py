@@ -1,1 +1,1 @@
-"""Compute figures, reports and files of two roads, beside the shared road."""
+"""Compute figures, reports and files of roads, beside the shared road."""

@@ -1,7 +1,7 @@
-"""Compare two roads over many days, to find out whether a difference is due to the change or to chance.
+"""Compare roads over many days, to find out whether a difference is due to the change or to chance.
 
 A day is a seed: it has drivers of its own. As a child, this module answers a `DaysQuestion` with a `DaysAnswer` after each day: the
-figures of the days that are done, over the steps `first` to `last` - 1, as means with 95 % intervals.
+figures of the first days, over the steps `first` to `last` - 1, as means with 95 % intervals.
 """
 from __future__ import annotations
 
@@ -10,19 +10,18 @@ import ctypes
 import signal
 from typing import Awaitable, Callable, Iterator, Sequence, TypedDict
 
-from zegdrut.figures import Value, compare, measure_day
+from zegdrut.figures import Value, compare_roads, measure_roads
 from zegdrut.figures.days import SEEDS
 from zegdrut.figures.simulation import iterate_days
-from zegdrut.figures.table import list_shown
 from zegdrut.figures.trips import Window
 from zegdrut.reports.report import run_side
 
 from ..tabs.refusals import Refused
 from . import child
-from .figures import Row, TwoRoads, sides_of, write_rows
+from .figures import ComparedRoads, Row, list_figures, sides_of, units_of, write_rows
 
 NICE = 10
-DaysQuestion = TypedDict("DaysQuestion", {"roads": TwoRoads, "days": int})
+DaysQuestion = TypedDict("DaysQuestion", {"compared": ComparedRoads, "days": int})
 DaysAnswer = TypedDict("DaysAnswer", {"done": int, "figures": Sequence[Row]})
 
 
@@ -41,7 +40,7 @@ class Comparisons:
         self._now: Comparison | None = None
         self._child: child.Child[DaysQuestion, DaysAnswer] = child.Child(__name__, NICE, None)
 
-    async def compare(self, mine: Comparison, name: Callable[[int], str], find_roads: Callable[[], Awaitable[TwoRoads]],
+    async def compare(self, mine: Comparison, name: Callable[[int], str], find_roads: Callable[[], Awaitable[ComparedRoads]],
                       progress: Callable[[int], None]) -> dict[str, object]:
         """Return the figures of all days; if the comparison is stopped, of those that are done. Stop the seat's former comparison. Call
         `progress` with the number of days that are done. Raise `Refused` if a comparison of another seat is running; `name` returns its
@@ -57,9 +56,9 @@ class Comparisons:
         self.stop()
         self._now = mine
         try:
-            roads = await find_roads()
+            compared = await find_roads()
             if self._now is mine:
-                await self._child.ask({"roads": roads, "days": mine.days}, roads["program"], hear)
+                await self._child.ask({"compared": compared, "days": mine.days}, compared["program"], hear)
         except Refused:
             if self._now is mine:
                 raise
@@ -83,18 +82,23 @@ class Comparisons:
 # In the child
 
 def simulate_days(asked: DaysQuestion) -> Iterator[DaysAnswer]:
-    """Simulate both roads with each seed, on all processors but one. Yield the figures after each day."""
-    roads, days = asked["roads"], list[Sequence[Value]]()
-    window, figures, sides = Window(roads["first"], roads["last"]), list_shown("live", roads["plan"]), sides_of(roads)
+    """Simulate all roads with each seed, on all processors but one. Yield the figures after each day, in the order of the seeds, so that the
+    days of a comparison that was stopped are the first ones."""
+    compared, days = asked["compared"], list[Sequence[Sequence[Value]]]()
+    early: dict[int, Sequence[Sequence[Value]]] = {}  # days that ended before an earlier one, by their places
+    window, sides = Window(compared["first"], compared["last"]), sides_of(compared)
+    figures = list_figures(compared["plan"], units_of(compared))
 
-    def make_day(seed: int) -> Sequence[Value]:
+    def make_day(seed: int) -> Sequence[Sequence[Value]]:
         ctypes.CDLL(None).prctl(1, signal.SIGKILL)  # PR_SET_PDEATHSIG: this process is killed as soon as the one that started it has ended
-        return measure_day(figures, *(run_side(side, seed, window, with_rows=False) for side in sides))
-    first = int(roads["plan"]["words"])
+        return measure_roads(figures, [run_side(side, seed, window, with_rows=False) for side in sides])
+    first = int(compared["plan"]["words"])
     with contextlib.closing(iterate_days(make_day, [(first + one) % SEEDS for one in range(asked["days"])])) as running:
-        for _, day in running:
-            days.append(day)
-            yield {"done": len(days), "figures": write_rows(compare(figures, days), roads)}
+        for place, day in running:
+            early[place] = day
+            while len(days) in early:
+                days.append(early.pop(len(days)))
+                yield {"done": len(days), "figures": write_rows(compare_roads(figures, days), compared)}
 
 
 if __name__ == "__main__":

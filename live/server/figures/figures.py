@@ -1,4 +1,4 @@
-"""Measure the figures of two roads in a window. They are the rows of the table of `zegdrut.figures`, which names and defines them.
+"""Measure the figures of some roads in a window. They are the rows of the table of `zegdrut.figures`, which names and defines them.
 
 As a child, this module answers a `FiguresQuestion` with the figures of the steps `first` to `last` - 1; or with {"done": step}, if it has
 only read up to that step after `seconds`. A road stays in its slot, so the next question about it only reads rows that are new or that
@@ -12,16 +12,16 @@ from collections import OrderedDict
 from typing import Iterator, Mapping, Sequence, TypedDict
 
 from zegdrut import Edit, RoadLab
-from zegdrut.figures import Figure, FigureRow, RoadRun, compare, measure_day
+from zegdrut.figures import Figure, FigureRow, Mean as FigureMean, RoadRun, compare_roads, list_means, measure_roads
 from zegdrut.figures.lost import AskedRates, compute_demands
-from zegdrut.figures.queues import is_of_free_road, with_lost
+from zegdrut.figures.queues import is_of_free_road, is_shown, with_lost
 from zegdrut.figures.table import list_shown
 from zegdrut.figures.simulation import read_counts
 from zegdrut.figures.trips import DetectorCount, Trips, Window, compute_travel_times_by_entry, count_seconds_on
 from zegdrut.program.scripts import Script
 from zegdrut.program.wire import CountReply, Fields, PlanLine, WrittenEdit
 from zegdrut.reports.report import Side
-from zegdrut.roads.units import to_km
+from zegdrut.roads.units import METRES, Units
 from zegdrut.roads.waiting import find_arrivals
 
 from ..model.projection import Edits
@@ -35,14 +35,14 @@ MOST_FIGURE_ROADS = 12  # roads that are kept
 NICE = 5  # below editing, above what takes longer
 ENTRY = 60  # steps: travel times are grouped by the minute in which the cars entered
 
-TwoDemands = TypedDict("TwoDemands", {"before": Sequence[AskedRates], "after": Sequence[AskedRates]})
-"""The demands that were asked for on two roads, by inlet."""
-TwoRoads = TypedDict("TwoRoads", {
-    "plan": PlanLine, "before": Sequence[WrittenEdit], "after": Sequence[WrittenEdit], "demands": TwoDemands, "first": int,
-    "last": int, "program": str, "names": Sequence[str]})
-"""Two roads and a window: their plan, edits and demands, the steps `first` to `last` - 1, the path of road_lab, and the roads' names."""
-FiguresQuestion = TypedDict("FiguresQuestion", {"roads": TwoRoads, "slots": Sequence[str], "seconds": float})
-"""A question: two roads, the slot of each, and the seconds that the answer may take."""
+ComparedRoad = TypedDict("ComparedRoad", {"name": str, "edits": Sequence[WrittenEdit], "demands": Sequence[AskedRates]})
+"""A road: what it is called, its edits, and the demands that were asked for, by inlet."""
+ComparedRoads = TypedDict("ComparedRoads", {
+    "plan": PlanLine, "roads": Sequence[ComparedRoad], "first": int, "last": int, "program": str, "origin": int})
+"""Two roads or more with the same plan, a window of the steps `first` to `last` - 1, the path of road_lab, and the cell at km 0. Each road
+is compared with the first one."""
+FiguresQuestion = TypedDict("FiguresQuestion", {"compared": ComparedRoads, "slots": Sequence[str], "seconds": float})
+"""A question: roads, the slot of each, and the seconds that the answer may take."""
 DetectorFigures = TypedDict("DetectorFigures", {"cars": int, "speeds": int, "flow": "float | None", "speed": "float | None", "on": int})
 """What a detector counted: cars, the sum of their speeds in cells per step, flow in cars per hour, mean speed in km/h; and for how
 many seconds it was on."""
@@ -50,13 +50,13 @@ Head = TypedDict("Head", {"key": str, "of": "Sequence[int | None]", "label": str
 """A figure: its key, the indexes of its inlet and its detector, its name without and with its unit, and its decimals."""
 Mean = Sequence["float | None"]
 """A mean, and the half-width of its interval; None if it is unknown. One day has no interval."""
-Row = TypedDict("Row", {"figure": Head, "before": Mean, "after": Mean, "difference": Mean, "bound": str, "words": str})
-"""A figure of two roads. `bound` says how the true one relates to it, such as "at least", and `words` is a sentence that it needs."""
+Row = TypedDict("Row", {"figure": Head, "values": Sequence[Mean], "differences": Sequence[Mean], "bounds": Sequence[str], "words": str})
+"""A figure: its value on each road, and each later road minus the first. `bounds` says how the true differences relate to these, such as
+"at least", and `words` are sentences that the figure needs."""
 MeanTimes = Mapping[str, Sequence["tuple[int, float | None]"]]
 """By the first step of a minute of entry: for each detector, and last for the road's end, the number of cars and their mean seconds."""
-TwoTimes = TypedDict("TwoTimes", {"before": MeanTimes, "after": MeanTimes})
-FiguresAnswer = TypedDict("FiguresAnswer", {"done": int, "figures": Sequence[Row], "entries": TwoTimes}, total=False)
-"""The figures of two roads and their travel times; or in `done` the step up to which the roads have been read."""
+FiguresAnswer = TypedDict("FiguresAnswer", {"done": int, "figures": Sequence[Row], "entries": Sequence[MeanTimes]}, total=False)
+"""The figures of roads, and the travel times of each; or in `done` the step up to which the roads have been read."""
 
 
 def write_head(figure: Figure) -> Head:
@@ -64,29 +64,45 @@ def write_head(figure: Figure) -> Head:
     return {"key": figure.key, "of": list(figure.of), "label": figure.label, "unit": figure.unit, "title": figure.title, "digits": figure.digits}
 
 
-def list_heads(plan: PlanLine) -> list[Head]:
+def list_figures(plan: PlanLine, units: Units) -> list[Figure]:
+    """Return the figures that live has of a road. Nobody waits before it."""
+    return [figure for figure in list_shown("live", plan, units) if is_shown(figure, frozenset(), units)]
+
+
+def list_heads(plan: PlanLine, units: Units) -> list[Head]:
     """Return the figures that live has of a road in the form of a welcome."""
-    return [write_head(figure) for figure in list_shown("live", plan)]
+    return [write_head(figure) for figure in list_figures(plan, units)]
 
 
-def write_rows(rows: Sequence[FigureRow], roads: TwoRoads) -> list[Row]:
+def units_of(compared: ComparedRoads) -> Units:
+    """Return the units of places of roads."""
+    return Units(METRES, 1.0, compared["origin"])
+
+
+def write_rows(tables: Sequence[Sequence[FigureRow]], compared: ComparedRoads) -> list[Row]:
     """Return figures in the form of a reply. They say which of them need a word: a detector was off for a while, or a road loses cars."""
-    of_key = {(row.figure.key, *row.of): row for row in rows}
-    places = [(f"km {to_km(cell):g}", of_key.get(("lost at", inlet, None)) or of_key["lost", None, None])
-              for inlet, (cell, _) in enumerate(roads["plan"]["inlets"])]
-    lost = [{place: getattr(row, side).mean or 0.0 for place, row in places} for side in ("before", "after")]
-    return [{"figure": write_head(row.figure), "before": list(row.before), "after": list(row.after), "difference": list(row.difference),
-             "bound": row.bound, "words": row.words or describe_off(row, of_key.get(("on", *row.of)), roads["last"] - roads["first"])}
-            for row in with_lost(rows, roads["names"], lost)]
+    values = {(row.figure.key, *row.of): list_means(tables, place, len(compared["roads"])) for place, row in enumerate(tables[0])}
+    places = [(units_of(compared).place(cell), values.get(("lost at", inlet, None)) or values["lost", None, None])
+              for inlet, (cell, _) in enumerate(compared["plan"]["inlets"])]
+    lost = [{place: means[number].mean or 0.0 for place, means in places} for number in range(len(compared["roads"]))]
+    tables = with_lost(tables, [road["name"] for road in compared["roads"]], lost)
+    found: list[Row] = []
+    for rows in zip(*tables):
+        row, (inlet, detector) = rows[0], rows[0].of
+        found.append({"figure": write_head(row.figure), "values": [list(one) for one in values[row.figure.key, inlet, detector]],
+                      "differences": [list(one.difference) for one in rows], "bounds": [one.bound for one in rows],
+                      "words": row.words or describe_off(row, values.get(("on", inlet, detector), ()), compared["last"] - compared["first"])})
+    return found
 
 
-def describe_off(row: FigureRow, on: FigureRow | None, steps: int) -> str:
-    """Return a sentence if a detector was off for a part of some steps. `on` is the time in which the detector of a row was on."""
-    were_off = [] if on is None else [(mean or 0) < steps for mean, _ in (on.before, on.after)]
+def describe_off(row: FigureRow, on: Sequence[FigureMean], steps: int) -> str:
+    """Return a sentence if a detector was off for a part of some steps. `on` has the time in which the detector of a row was on, by road."""
+    were_off = [(mean or 0) < steps for mean, _ in on]
     if row.figure.key not in ("cars", "flow", "speed") or not any(were_off):
         return ""
     place = row.figure.label.partition(":")[0].removeprefix("cars at ")
-    return f"The detector at {place} was off for a part of the time on {'both roads' if all(were_off) else 'one of the roads'}."
+    where = ("all roads" if len(on) > 2 else "both roads") if all(were_off) else "some roads" if sum(were_off) > 1 else "one of the roads"
+    return f"The detector at {place} was off for a part of the time on {where}."
 
 
 def detector_figures(said: CountReply, edits: Sequence[Edit], detector: int, window: Window) -> DetectorFigures:
@@ -101,8 +117,8 @@ def detector_figures(said: CountReply, edits: Sequence[Edit], detector: int, win
 class DrivenRoad:
     """A road that is simulated and read step by step, and whose edits can be replaced."""
 
-    def __init__(self, plan: PlanLine) -> None:
-        self.plan, self.lab, self.trips = plan, RoadLab(plan), Trips(plan, plan["detectors"])
+    def __init__(self, plan: PlanLine, origin: int) -> None:
+        self.plan, self.lab, self.trips = plan, RoadLab(plan), Trips(plan, plan["detectors"], origin=origin)
         self._edits: Edits = {}
         self._count = 0
         self._arrivals: tuple[object, dict[int, list[int]]] = (None, {})
@@ -140,17 +156,18 @@ def edits_of(rows: Sequence[WrittenEdit]) -> Edits:
     return {(kind, index, step): value for kind, index, step, *_, value in rows if value is not None}
 
 
-def sides_of(roads: TwoRoads) -> list[Side]:
-    """Return the roads before and after the change as scripts, with their demands. Cars that cannot enter are lost."""
-    found, last, plan = [], roads["last"], roads["plan"].copy()
+def sides_of(compared: ComparedRoads) -> list[Side]:
+    """Return roads as scripts, with their demands. Cars that cannot enter are lost."""
+    found, last, plan = [], compared["last"], compared["plan"].copy()
     plan["replicas"] = ["A"]
     advance: Fields = {"advance": {"at": "A", "to": last}}
-    for rows, known, name in zip((roads["before"], roads["after"]), (roads["demands"]["before"], roads["demands"]["after"]), roads["names"]):
+    for road in compared["roads"]:
+        rows = road["edits"]
         edits = [Edit.read(row) for row in rows_of(dict(sorted(edits_of(rows).items())))]
         of_free = [edit for edit in edits if is_of_free_road(edit)]
         free = Script(plan, [*({"edit": {"at": "A", "object": list(edit.object), "step": edit.step, "value": edit.value}} for edit in of_free), advance])
         script = free if len(of_free) == len(edits) else Script(plan, [*import_lines("A", rows_of(edits_of(rows))), advance])
-        found.append(Side(name, script, compute_demands(plan, edits, last, asked=known), free, waits=False))
+        found.append(Side(road["name"], script, compute_demands(plan, edits, last, asked=road["demands"]), free, waits=False, units=units_of(compared)))
     return found
 
 
@@ -166,33 +183,33 @@ class Roads:
     def __init__(self) -> None:
         self._roads: OrderedDict[str, DrivenRoad] = OrderedDict()
 
-    def road(self, slot: str, plan: PlanLine) -> DrivenRoad:
+    def road(self, slot: str, plan: PlanLine, origin: int) -> DrivenRoad:
         """Return the road in a slot; a new one if the slot is empty or has another plan."""
         road = self._roads.pop(slot, None)
         if road is not None and road.plan != plan:
             road.lab.close()
             road = None
-        self._roads[slot] = road = road or DrivenRoad(plan)
+        self._roads[slot] = road = road or DrivenRoad(plan, origin)
         while len(self._roads) > MOST_FIGURE_ROADS:
             self._roads.popitem(last=False)[1].lab.close()
         return road
 
     def answer(self, asked: FiguresQuestion) -> Iterator[FiguresAnswer]:
-        """Yield the figures of two roads, or up to which step they have been read."""
-        both, until = asked["roads"], time.monotonic() + asked["seconds"]
-        window = Window(both["first"], both["last"])
-        roads = [self.road(slot, both["plan"]) for slot in asked["slots"]]
-        for road, edits in zip(roads, (both["before"], both["after"])):
-            road.become(edits)
+        """Yield the figures of some roads, or up to which step they have been read."""
+        compared, until = asked["compared"], time.monotonic() + asked["seconds"]
+        window = Window(compared["first"], compared["last"])
+        roads = [self.road(slot, compared["plan"], compared["origin"]) for slot in asked["slots"]]
+        for road, one in zip(roads, compared["roads"]):
+            road.become(one["edits"])
             road.read(window.last, until)
         done = min(road.trips.horizon for road in roads)
         if done < window.last:
             yield {"done": done}
             return
-        before, after = (road.run_of(side, window) for road, side in zip(roads, sides_of(both)))
-        figures = list_shown("live", both["plan"])
-        yield {"figures": write_rows(compare(figures, [measure_day(figures, before, after)]), both),
-               "entries": {"before": times_by_entry(before), "after": times_by_entry(after)}}
+        runs = [road.run_of(side, window) for road, side in zip(roads, sides_of(compared))]
+        figures = list_figures(compared["plan"], units_of(compared))
+        yield {"figures": write_rows(compare_roads(figures, [measure_roads(figures, runs)]), compared),
+               "entries": [*map(times_by_entry, runs)]}
 
 
 if __name__ == "__main__":

@@ -8,7 +8,8 @@ from typing import Callable, Iterable, Iterator, Mapping, Sequence
 
 from zegdrut.figures.trips import Window
 from zegdrut.program.wire import PlanLine, WrittenEdit
-from zegdrut.roads.units import to_km
+from zegdrut.roads.clock import Clock
+from zegdrut.roads.units import Units
 
 from ..journal.journal_lines import to_json
 from ..roads.program import command_of, import_lines, start
@@ -106,10 +107,19 @@ def table(head: list[str], lines: Iterable[Sequence[object]]) -> str:
     return text.getvalue()
 
 
-def table_of_counts(plan: PlanLine, title: str, say_time: Callable[[int], str], windows: Sequence[Window],
+def time_writer(day: Clock | None, lead: int) -> Callable[[int], str]:
+    """Return a function that writes the time of a step: the time of day if the road has one, else the time since minute 0. `lead` is the
+    step at minute 0."""
+    def write(step: int) -> str:
+        seconds = abs(step - lead)
+        return f"{'-' * (step < lead)}{seconds // 3600}:{seconds // 60 % 60:02}:{seconds % 60:02}" if day is None else day.to_text(step - lead)
+    return write
+
+
+def table_of_counts(plan: PlanLine, units: Units, title: str, say_time: Callable[[int], str], windows: Sequence[Window],
                     counts: Sequence[Sequence[DetectorFigures]]) -> str:
     """Return a table of what detectors counted in each window, as CSV. The first line is the title, the second the head with units."""
-    lines = [[say_time(window.first), say_time(window.last), detector, round_or_blank(to_km(plan["detectors"][detector]), 4),
+    lines = [[say_time(window.first), say_time(window.last), detector, round_or_blank(units.to_km(plan["detectors"][detector]), 4),
               one["cars"], round_or_blank(one["flow"], 1), round_or_blank(one["speed"], 1), one["on"]]
              for window, span in zip(windows, counts) for detector, one in enumerate(span)]
     head = ["from", "to", "detector", "km", "cars", "flow in cars/h", "time-mean speed in km/h", "seconds on"]

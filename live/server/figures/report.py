@@ -1,35 +1,44 @@
-"""Make the report on two roads in a window: the same page as `zegdrut report` makes for a freeway.
+"""Make the report on some roads in a window: the same page as `zegdrut report` makes for a freeway.
 
 As a child, this module answers a `ReportQuestion` with the page.
 """
 from __future__ import annotations
 
+import math
+import time
 from typing import Iterator, Sequence, TypedDict
 
+from zegdrut.figures.days import SEEDS
 from zegdrut.figures.trips import Window
 from zegdrut.program.wire import PlanLine
-from zegdrut.reports.report import Side, make_table, run_sides
-from zegdrut.reports.report_page import Contents, draw_demands, format_page
+from zegdrut.reports.report import Side, make_tables, run_sides
+from zegdrut.reports.report_page import Contents, describe_approach, draw_demands, format_page
 from zegdrut.roads.clock import Clock
 from zegdrut.roads.demand import Rates
-from zegdrut.roads.units import ALWAYS, KMH, to_km
+from zegdrut.roads.units import ALWAYS, KMH, Units, count_things
+from zegdrut.sweeps.pool import count_processors
 
 from ..model.projection import Edits
 from . import child
-from .figures import TwoRoads, edits_of, sides_of
+from .figures import ComparedRoads, edits_of, sides_of, units_of
 
 DAYS = 5
+"""The days of a report for which no number of days was given."""
+MOST_SECONDS = child.PATIENCE
+"""The seconds that a report may take."""
 NICE = 8
 MOST_DATES = 12  # changes of a demand that a sentence lists; if there are more, the chart shows them
 ReportQuestion = TypedDict("ReportQuestion", {
-    "roads": TwoRoads, "title": str, "works": Sequence[str], "clock": Sequence["str | None"], "days": int})
-"""Two roads, sentences about the change, the begin, date and time zone of the road's file, and the number of days."""
-ReportAnswer = TypedDict("ReportAnswer", {"html": str})
+    "compared": ComparedRoads, "title": str, "works": Sequence[str], "clock": Sequence["str | None"], "days": int, "approach": bool})
+"""Two roads or more, sentences about the changes, the clock time, date and time zone of step 0, the number of days, and whether the diagrams
+show the approach."""
+ReportAnswer = TypedDict("ReportAnswer", {"html": str, "days": int, "why": str}, total=False)
+"""The page, and its number of days; or why the report would take too long."""
 
 
 # In the child
 
-def closures_of(edits: Edits, last: int) -> list[tuple[int, int, float, float]]:
+def closures_of(edits: Edits, last: int, units: Units) -> list[tuple[int, int, float, float]]:
     """Return the closures of a road, as (from step, to step, from km, to km). Neighbouring cells are one closure. The edits of a cell
     close it and open it in turn."""
     changes = sorted((cell, step, value) for (kind, cell, step), value in edits.items() if kind == "block")
@@ -38,28 +47,33 @@ def closures_of(edits: Edits, last: int) -> list[tuple[int, int, float, float]]:
         if value and begin < last:
             span = begin, end if following == cell else last
             firsts[(*span, cell + 1)] = firsts.pop((*span, cell), cell)
-    return [(begin, end, to_km(first), to_km(behind)) for (begin, end, behind), first in firsts.items()]
+    return [(begin, end, units.to_km(first), units.to_km(behind)) for (begin, end, behind), first in firsts.items()]
 
 
-def facts_of(roads: TwoRoads, side: Side, clock: Clock) -> list[str]:
-    """Return sentences that say the length, drivers and demands of a road."""
-    plan = roads["plan"]
+def facts_of(compared: ComparedRoads, sides: Sequence[Side], clock: Clock) -> list[str]:
+    """Return sentences that say the length and drivers of the plan, and the demands: of two roads those of the later one, of more those of
+    each road if they differ."""
+    plan, differ = compared["plan"], len(sides) > 2 and any(side.demands != sides[0].demands for side in sides)
     kinds = {(limit, slowing) for limit, slowing in plan["zones"]}
     (limit, slowing), *more = sorted(kinds)
     drivers = f"limit {limit * KMH:g} km/h, slowing {slowing / ALWAYS:.0%}" if not more else f"{len(kinds)} kinds of zones"
-    found = [f"{to_km(plan['length']):g} km, one lane, {drivers}"]
-    return [*found, *(f"{name}: {demand_text(rates, clock, roads['last'])}" for name, rates in named_demands(plan, side))]
+    starts = {value for (kind, _, step), value in edits_of(compared["roads"][0]["edits"]).items() if kind == "start" and step == 0 and value is not None}
+    drivers += "".join(f", slow-to-start {chance / ALWAYS:.0%}" for chance in (starts if len(starts) == 1 else ()))
+    units = units_of(compared)
+    found = [f"{units.to_km(plan['length']):g} km, one lane, {drivers}", *describe_approach(units)]
+    return [*found, *(f"{f'{side.name}: ' if differ else ''}{name}: {demand_text(rates, clock, compared['last'])}"
+                      for side in (sides if differ else sides[-1:]) for name, rates in named_demands(plan, side))]
 
 
 def named_demands(plan: PlanLine, side: Side) -> list[tuple[str, Rates]]:
-    """Return the name and the demand of each inlet."""
-    return [(f"on-ramp at km {to_km(cell):g}" if cell else "main road", rates)
-            for (cell, _), rates in zip(plan["inlets"], side.demands)]
+    """Return the name and the demand of each inlet. If the road has an approach, cars enter the main road at its head, before km 0."""
+    main = f"main road at {side.units.place(0)}" if side.units.origin else "main road"
+    return [(f"on-ramp at {side.units.place(cell)}" if cell else main, rates) for (cell, _), rates in zip(plan["inlets"], side.demands)]
 
 
 def demand_chart(plan: PlanLine, sides: Sequence[Side], clock: Clock, window: Window) -> str:
     """Return a chart of the demands of the roads; of only one road if they are equal."""
-    shown = sides if sides[0].demands != sides[-1].demands else sides[-1:]
+    shown = sides if any(side.demands != sides[0].demands for side in sides) else sides[-1:]
     return draw_demands([(side.name if len(shown) > 1 else "", named_demands(plan, side)) for side in shown], clock, window)
 
 
@@ -75,20 +89,45 @@ def demand_text(rates: Rates, clock: Clock, last: int) -> str:
     return ", ".join(f"{rate:,} from {clock.to_text(step)}" for step, rate in dates) + " cars/h"
 
 
+class TakesTooLong(Exception):
+    """A report would take longer than it may. The message says what to do."""
+
+
+def check_time(seconds: float, done: int, runs: int, days: int) -> None:
+    """Raise `TakesTooLong` if all runs of a report, on all processors, would take too long. `done` of them took `seconds`."""
+    team = count_processors()
+    of_round = seconds / math.ceil(done / team)  # each processor has a run
+    total, rounds = of_round * math.ceil(runs / team), int(MOST_SECONDS / of_round)
+    if total <= MOST_SECONDS:
+        return
+    fitting = rounds * team // (runs // days)
+    fewer = f", or at most {count_things(fitting, 'day')}" if fitting else ""
+    raise TakesTooLong(f"the report over {count_things(days, 'day')} would take about {count_things(math.ceil(total / 60), 'minute')}, and may take "
+                       f"{MOST_SECONDS / 60:g}: choose a shorter period{fewer}. On the page, a report has as many days as the table of days, which you "
+                       f"can stop earlier, and {DAYS} without that table")
+
+
 def make_page(asked: ReportQuestion) -> Iterator[ReportAnswer]:
-    """Yield the report as HTML."""
-    roads = asked["roads"]
-    window, plan = Window(roads["first"], roads["last"]), roads["plan"]
+    """Yield the report as HTML, or why it would take too long. Its days are those of a comparison over as many days."""
+    compared = asked["compared"]
+    window, plan = Window(compared["first"], compared["last"]), compared["plan"]
     clock, seed = Clock.read(*asked["clock"]), plan["words"]
-    closed = [closures_of(edits_of(edits), window.last) for edits in (roads["before"], roads["after"])]
-    sides = sides_of(roads)
-    if edits_of(roads["before"]) == edits_of(roads["after"]):  # one road
-        del sides[0], closed[0]
-    days = run_sides(sides, [seed] if not isinstance(seed, int) else list(range(seed, seed + asked["days"])), window)
-    yield {"html": format_page(Contents(
-        title=asked["title"], facts=facts_of(roads, sides[-1], clock), works=asked["works"], notes=[], clock=clock, window=window,
-        length=plan["length"], detectors=plan["detectors"], sides=sides, days=days, rows=make_table(sides, days, window), seed=seed,
-        closed=closed, demand=demand_chart(plan, sides, clock, window)))}
+    edits = [edits_of(road["edits"]) for road in compared["roads"]]
+    closed = [closures_of(one, window.last, units_of(compared)) for one in edits]
+    sides, began = sides_of(compared), time.monotonic()
+    if all(one == edits[0] for one in edits):  # one road
+        del sides[:-1], closed[:-1]
+    seeds: list[int | str] = [(seed + day) % SEEDS for day in range(asked["days"])] if isinstance(seed, int) else [seed]
+    try:
+        days = run_sides(sides, seeds, window, lambda done, runs: check_time(time.monotonic() - began, done, runs, len(seeds)))
+    except TakesTooLong as fault:
+        yield {"why": str(fault)}
+        return
+    tables = make_tables(sides, days, window)
+    yield {"days": len(days), "html": format_page(Contents(
+        title=asked["title"], facts=facts_of(compared, sides, clock), works=asked["works"], notes=[], clock=clock, window=window,
+        length=plan["length"], detectors=plan["detectors"], sides=sides, days=days, rows=tables[0], others=tables[1:], seed=seed,
+        closed=closed, demand=demand_chart(plan, sides, clock, window), has_approach=asked["approach"]))}
 
 
 if __name__ == "__main__":

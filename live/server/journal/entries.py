@@ -14,6 +14,7 @@ from typing import TYPE_CHECKING, Callable, ClassVar, Mapping, Sequence, TypeVar
 
 from zegdrut.program.grammar import PLAN, check_fields
 from zegdrut.program.wire import PlanLine
+from zegdrut.roads.units import METRES, Units
 
 from ..model.operations import SEATS, Json, Operation, Stamp
 from ..model.reading import Malformed, list_of, read_kept_operation, read_row, read_site, read_stamp, read_time, whole
@@ -115,15 +116,19 @@ def whole_to(most: int, what: str) -> Callable[[Json], int]:
 
 @dataclass(frozen=True)
 class Folder(Entry):
-    """The first entry: the form of the journal, the plan, and the name of the site."""
+    """The first entry: the form of the journal, the plan, and the name of the site; of a road with an approach the cell at km 0, and the
+    step at minute 0 of its file, where the clock begins."""
 
     kind = "lab"
     form: int
     plan: PlanLine
     site: str
+    origin: int = 0
+    lead: int = 0
 
     def apply(self, state: State) -> None:
-        state.plan, state.site = self.plan, self.site
+        state.plan, state.site, state.now = self.plan, self.site, self.lead
+        state.units = Units(METRES, 1.0, self.origin, self.lead)
 
 
 @dataclass(frozen=True)
@@ -200,6 +205,18 @@ class OwnOperation(Entry):
         seat.hold([operation])
         if self.key is not None:
             seat.done[self.key] = operation.stamp
+
+
+@dataclass(frozen=True)
+class Forgetting(Entry):
+    """Private operations of a seat that had no effect any more were forgotten."""
+
+    kind = "forgot"
+    seat: int
+    stamps: Sequence[Stamp]
+
+    def apply(self, state: State) -> None:
+        state.forget(state.seats[self.seat], self.stamps)
 
 
 @dataclass(frozen=True)
@@ -299,6 +316,21 @@ class NewsList(Entry):
 
 
 @dataclass(frozen=True)
+class NamedVariant(Entry):
+    """A seat named what its road was made of: the first `upto` operations of the shared road, and operations of its own. Without `upto`,
+    the seat has removed the variant of this name."""
+
+    kind = "variant"
+    seat: int
+    name: str
+    upto: int | None = None
+    stamps: Sequence[Stamp] = ()
+
+    def apply(self, state: State) -> None:
+        state.seats[self.seat].name_variant(self.name, None if self.upto is None else (self.upto, self.stamps))
+
+
+@dataclass(frozen=True)
 class Works(Entry):
     """Every new seat starts with the first `upto` operations of the shared road: the roadworks of a freeway's file."""
 
@@ -312,7 +344,8 @@ class Works(Entry):
 ENTRY_KINDS: dict[str, type[Entry]] = {one.kind: one for one in Entry.__subclasses__()}
 PLACE, STEP, TEXT = whole_to(1 << 40, "place"), whole_to(1 << 30, "step"), read_string
 READERS: Mapping[str, Callable[[Json], object]] = {
-    "form": read_form, "plan": read_plan_line, "site": read_site, "rate": read_number, "now": STEP, "stop": STEP,
+    "form": read_form, "plan": read_plan_line, "site": read_site, "origin": PLACE, "lead": STEP,
+    "rate": read_number, "now": STEP, "stop": STEP,
     "seat": whole_to(SEATS - 1, "seat"), "name": TEXT, "key": TEXT, "who": TEXT, "title": TEXT, "when": read_time, "upto": PLACE,
     "size": PLACE, "operation": read_kept_operation, "operations": list_of(read_kept_operation), "stamps": list_of(read_stamp),
     "keys": list_of(read_key), "shares": list_of(News.read), "shared": lambda value: value is True, "unsent": lambda value: value is True}

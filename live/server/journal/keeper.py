@@ -13,7 +13,7 @@ import json
 import logging
 import time
 from pathlib import Path
-from typing import Awaitable, Callable, Iterable, Mapping, TypeVar, Union
+from typing import TYPE_CHECKING, Awaitable, Callable, Iterable, Mapping, TypeVar, Union
 
 from zegdrut.program.grammar import LAST_HORIZON
 
@@ -26,11 +26,14 @@ from ..roads.program import ProgramExited, Program, Times, command_of, start
 from ..roads.screen import Differences, Screen
 from ..roads.turns import MORE, Job, More, Turns
 from ..tabs.refusals import Refused
-from .entries import JOURNAL_FORM, Clock, Entry, Folder, OwnOperation, read_plan_line, write_entry
+from .entries import JOURNAL_FORM, Clock, Entry, Folder, Forgetting, OwnOperation, read_plan_line, write_entry
 from .journal import Journal, NotWritten, explain_fault
 from .journal_lines import JOURNAL, CannotStart, CorruptJournal, Entries, JournalLine, to_json
 from .naming import Counter, new_site
 from .state import NO_PLAN, State
+
+if TYPE_CHECKING:
+    from ..roads.new_road import NewRoad
 
 MOST_UNDOABLE = 20  # newest private operations of a seat, which are never forgotten
 LONGEST_DISK_PAUSE = 60.0  # seconds between two tries of a disk that refuses writes
@@ -90,8 +93,8 @@ class Keeper:
 
     # Start
 
-    async def open(self, plan: Callable[[], Mapping[str, Json]], site: str | None) -> bool:
-        """Read the journal, or begin one with this plan and a new site, which has the name `site` if that is given. Start the program.
+    async def open(self, read_road: Callable[[], NewRoad], site: str | None) -> bool:
+        """Read the journal, or begin one with this road and a new site, which has the name `site` if that is given. Start the program.
         Return whether the journal is new. Raise `CannotStart` if the journal cannot be read. If the program refuses the plan, the folder
         is left as it was."""
         path = self.folder / JOURNAL
@@ -101,13 +104,13 @@ class Keeper:
         if not is_new and site is not None and self.state.site.rpartition("-")[0] != site:
             raise CannotStart(f"{self.folder} belongs to site {self.state.site} for ever: start it without --site, or use a new folder")
         if is_new:
-            own = new_site(site)
-            first: dict[str, Json] = {**plan(), "replicas": [self.state.replica(seat.index).at for seat in self.state.seats]}
+            own, road = new_site(site), read_road()
+            first: dict[str, Json] = {**road.plan, "replicas": [self.state.replica(seat.index).at for seat in self.state.seats]}
             # A program must accept the plan before it is written to the journal.
             await (await start(command_of(self.path, first), to_json(first).encode())).close()
         self.journal = Journal(path, entries.size)
         if is_new:
-            await self.record(Folder(JOURNAL_FORM, read_plan_line(first), own))
+            await self.record(Folder(JOURNAL_FORM, read_plan_line(first), own, road.origin, road.lead))
         self.clock_started = time.monotonic()
         self._forget()
         self._screen = await self._start()
@@ -282,8 +285,11 @@ class Keeper:
 
     @property
     def reference(self) -> str:
-        """Return a hash of the plan and seed, without the names of replicas. Sites with the same hash have the same road."""
-        return hashlib.sha256(json.dumps({**self.state.plan, "replicas": 0}, sort_keys=True).encode()).hexdigest()[:16]
+        """Return a hash of the plan and seed, without the names of replicas, and of an approach. Sites with the same hash have the same
+        road, km and times."""
+        units = self.state.units
+        approach = {"origin": units.origin, "lead": units.begin} if units.origin else {}
+        return hashlib.sha256(json.dumps({**self.state.plan, **approach, "replicas": 0}, sort_keys=True).encode()).hexdigest()[:16]
 
     # The program
 
@@ -331,7 +337,9 @@ class Keeper:
         """Forget private operations that have no effect any more, except the newest. No road differs without them."""
         self.undo_count = 0
         for seat in self.state.seats[1:]:
-            self.state.forget(seat, MOST_UNDOABLE)
+            stamps = self.state.forgettable(seat, MOST_UNDOABLE)
+            if stamps:
+                self.record(Forgetting(seat.index, stamps))
 
     def cancel_successor(self) -> None:
         if self._next is not None:

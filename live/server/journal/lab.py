@@ -8,7 +8,7 @@ from __future__ import annotations
 import asyncio
 import time
 from dataclasses import dataclass, replace
-from typing import Awaitable, Callable, Mapping, TypedDict, TypeVar, Union
+from typing import TYPE_CHECKING, Awaitable, Callable, Mapping, TypedDict, TypeVar, Union
 
 from ..model.choices import find_overruling, sendable, find_undoable, would_change
 from ..model.demands import kept_demand, written_demand
@@ -22,15 +22,19 @@ from ..tabs.change_list import ListedOperation, Lister
 from ..tabs.refusals import Refused
 from ..tabs.seating import Seating
 from .checks import Checks
-from .entries import Arrival, OwnOperation, Share, Take
+from .entries import Arrival, NamedVariant, OwnOperation, Share, Take
 from .keeper import SHARED, Keeper, wait_until_written
 from .road_clock import RoadClock
-from .state import Replica, SeatReplica, State
+from .state import Replica, SeatReplica, State, Variant
+
+if TYPE_CHECKING:
+    from ..roads.new_road import NewRoad
 
 MOST_IN_TAKE = 200  # operations in the reply to a take
 LOOKED_AT = 500  # operations that are looked at for news
 LIST_AT_ONCE = 0.02  # seconds for the lines of a reply; the page asks for the remaining lines
 MOST_BLOCKED = 5  # operations that undo skips, in a reply
+MOST_VARIANTS = 16  # of a seat
 
 ReplyFields = Mapping[str, object]
 """The fields of a reply to a tab."""
@@ -53,6 +57,13 @@ class Author:
 MakeOperation = Callable[[Author], Operation]
 
 
+def require_variant(seat: SeatReplica, name: str) -> Variant:
+    """Return the variant of a seat with this name. Raise `Refused` if the seat has no such variant."""
+    if name not in seat.variants:
+        raise Refused("NoSuchVariant", f"this seat has no variant of the name {name}")
+    return seat.variants[name]
+
+
 class Lab:
     """The laboratory behind a server."""
 
@@ -61,9 +72,9 @@ class Lab:
         self.seating, self.road_clock = Seating(keeper), RoadClock(keeper)
         self._pending: dict[tuple[int, str], Done] = {}  # by seat and key: entries that are being written
 
-    async def open(self, plan: Callable[[], Mapping[str, Json]], site: str | None) -> bool:
+    async def open(self, read_road: Callable[[], NewRoad], site: str | None) -> bool:
         """Open the keeper's folder. Return whether it is new."""
-        is_new = await self.keeper.open(plan, site)
+        is_new = await self.keeper.open(read_road, site)
         self._checks = Checks(self.state.plan)
         self.keeper.supervise("the task that saves the clock and frees seats", self._look_after)
         return is_new
@@ -210,6 +221,20 @@ class Lab:
         if done is not None:
             await wait_until_written(done, times)
         return made
+
+    async def name_variant(self, index: int, times: Times, name: str, is_kept: bool) -> ReplyFields:
+        """Keep what a seat's road is made of under a name, or remove the variant of this name."""
+        async def make() -> tuple[ReplyFields, Done | None]:
+            seat = self.seating.require_owned(index)
+            await self.keeper.require_writable()
+            if not is_kept:
+                require_variant(seat, name)
+            elif len({*seat.variants, name}) > MOST_VARIANTS:
+                raise Refused("TooManyVariants", f"a seat has at most {MOST_VARIANTS} variants: remove one first")
+            upto, stamps = seat.present_variant() if is_kept else (None, ())
+            done = self.keeper.record(NamedVariant(index, name, upto, stamps))
+            return {"name": name, "variants": [*seat.variants]}, done
+        return await self._write(index, make, times, takes_long=False)
 
     # Lists
 

@@ -30,7 +30,8 @@ class RoadClock:
         keeper = self._keeper
         now = keeper.now()
         if to is not None and not now <= to <= min(LAST_HORIZON, now + STEPS_AHEAD):
-            raise Refused("Range", f"`to` must be {now} to {min(LAST_HORIZON, now + STEPS_AHEAD)}, not {to}")
+            raise Refused("Range", f"the clock goes forward only, and by at most {STEPS_AHEAD // HOUR} hours at a time: `to` must be {now} to "
+                          f"{min(LAST_HORIZON, now + STEPS_AHEAD)}, not {to}")
         async with self._setting:
             await keeper.turns.ask(SHARED, keeper.require_writable)
             clock = keeper.clock() if rate is None else Clock(rate, keeper.now())

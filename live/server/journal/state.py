@@ -11,21 +11,22 @@ first ones of the shared road.
 from __future__ import annotations
 
 import asyncio
-from typing import Iterable, Iterator, Mapping
+from typing import Iterable, Iterator, Mapping, Sequence
 
 from zegdrut.program.wire import PlanLine
+from zegdrut.roads.units import METRES, Units
 
 from ..model.choices import find_forgettable, shareable
 from ..model.lines import all_lines, find_altered_lines, line_of, operations_on
 from ..model.operations import SEATS, Operation, Stamp, Unreadable, intern_int
 from ..model.reading import Malformed
 from ..model.road import Road
-from .entries import (JOURNAL_FORM, NewsList, Arrival, Clock, Entry, Fields, Folder, Keys, OwnOperation, News, SeatGrant, Take, Works,
-                      read_entry)
+from .entries import (JOURNAL_FORM, NewsList, Arrival, Clock, Entry, Fields, Folder, Keys, NamedVariant, OwnOperation, News, SeatGrant, Take,
+                      Works, read_entry)
 from .journal_lines import CorruptJournal
 from .naming import Counter
 
-TAB_FORM = 6  # the protocol of tabs
+TAB_FORM = 7  # the protocol of tabs
 SITE_FORM = 4  # the protocol of sites
 MOST_NEWS = 100
 MOST_FORGOTTEN_KEYS = 1_000  # keys of a seat whose operations were forgotten
@@ -33,6 +34,8 @@ APPLIED_AT_ONCE = 100  # operations that are applied before others get a turn
 MOST_UNREADABLE = 10  # operations of a journal that cannot be read; with more, the server does not start
 MOST_SHARED_ROADS = 8  # values of the shared road that are kept for seats that take
 
+Variant = tuple[int, Sequence[Stamp]]
+"""What a named road is made of: how many operations of the shared road it has, the first ones, and the stamps of the seat's own others."""
 NO_PLAN: PlanLine = {"length": 0, "inlets": (), "zones": (), "zone": 0, "exit": 0, "detectors": (), "words": 0, "replicas": ()}
 """The plan of a state that has not read a plan."""
 
@@ -180,17 +183,32 @@ class SeatReplica(Replica):
         self.used: float = 0  # when it last had a tab, in seconds since 1970
         self.done: dict[str, Stamp] = {}  # its operations by their keys
         self.idle: frozenset[Operation] = frozenset()  # private ones that need not be shared, as the list shows
+        self.variants: Mapping[str, Variant] = {}  # by name; another object after each change
         self._shareable: tuple[Road, Road, list[Operation]] | None = None
 
     def build(self) -> Road:
         return self._state.shared.upto(self.upto).adding(self.own)
 
+    def present_variant(self) -> Variant:
+        """Return what its road is made of now."""
+        places = self._state.shared.places
+        return self.upto, [one.stamp for one in self.own if places.get(one, self.upto) >= self.upto]
+
+    def name_variant(self, name: str, variant: Variant | None) -> None:
+        """Keep a variant under a name, which may have named another one; None removes it."""
+        kept = self.variants if variant is None else {**self.variants, name: variant}
+        self.variants = {one: kept[one] for one in kept if variant is not None or one != name}
+
+    def held_by_variants(self) -> set[Stamp]:
+        """Return the stamps of the operations that its variants hold."""
+        return {stamp for _, stamps in self.variants.values() for stamp in stamps}
+
     def rebuild_without(self, lines: set[Stamp]) -> None:
         """Build its road again after operations on these lines were forgotten. Lines without operations leave the list."""
-        self._road = self.build()
-        left = {line for line in lines if operations_on(self._road, line)}
-        self.mark(sorted(left))
+        self._road = None
         if self.marks is not None:
+            left = {line for line in lines if operations_on(self.road, line)}
+            self.mark(sorted(left))
             self.marks = {line: version for line, version in self.marks.items() if line in left or line not in lines}
 
     def shareable(self) -> list[Operation]:
@@ -231,6 +249,7 @@ class State:
         """`counter` counts operations. Versions of lists begin above `begun`."""
         self.begun = begun
         self.plan: PlanLine = NO_PLAN
+        self.units = Units(METRES, 1.0)  # with the cell at km 0 and the step at minute 0 of the road's file
         self.site = ""
         self.makers: dict[Operation, int] = {}  # the seats that made operations
         self.unsent: dict[Operation, None] = {}  # shared at this site, but not yet returned by the broker
@@ -307,8 +326,14 @@ class State:
         return [one for one in seat.own if one not in self.shared.places]
 
     def has_private(self, seat: SeatReplica) -> bool:
-        """Return whether freeing a seat would lose changes: private ones that would change the shared road, or that cannot be read."""
-        return bool(seat.shareable()) or any(isinstance(one, Unreadable) for one in self.private(seat))
+        """Return whether freeing a seat would lose variants, or changes: private ones that would change the shared road, or that cannot be
+        read."""
+        return bool(seat.variants) or bool(seat.shareable()) or any(isinstance(one, Unreadable) for one in self.private(seat))
+
+    def operations_of(self, variant: Variant) -> list[Operation]:
+        """Return the operations that a variant is made of, except those that cannot be read."""
+        upto, stamps = variant
+        return [*self.shared.operations(0, upto), *(self.by_stamp[one] for one in stamps if one in self.by_stamp)]
 
     def unseen(self, seat: SeatReplica, upto: int | None = None) -> list[Operation]:
         """Return the shared operations that the seat has not taken and does not hold already."""
@@ -316,15 +341,19 @@ class State:
 
     # Forgetting
 
-    def forget(self, seat: SeatReplica, kept: int) -> None:
-        """Drop private operations that no longer have an effect, except the newest `kept`. No road differs without them."""
+    def forgettable(self, seat: SeatReplica, kept: int) -> list[Stamp]:
+        """Return the private operations that no longer have an effect, except the newest `kept` and those of variants. No road differs
+        without them."""
         private = self.private(seat)
         if len(private) <= kept:
-            return
-        gone = find_forgettable(seat.road, self.shared.road, seat.own, kept) & set(private)
-        if not gone:
-            return
-        lines = {line_of(seat.road, one) for one in gone}
+            return []
+        gone = find_forgettable(seat.road, self.shared.road, seat.own, kept, seat.held_by_variants())
+        return [one.stamp for one in private if one in gone]
+
+    def forget(self, seat: SeatReplica, stamps: Iterable[Stamp]) -> None:
+        """Drop private operations of a seat, which have no effect."""
+        gone = [self.by_stamp[stamp] for stamp in stamps]
+        lines = set() if seat.marks is None else {line_of(seat.road, one) for one in gone}
         for operation in gone:
             del seat.own[operation], seat.places[operation], self.makers[operation], self.by_stamp[operation.stamp]
         seat.rebuild_without(lines)
@@ -340,7 +369,7 @@ class State:
 
     def entries(self) -> Iterator[Entry]:
         """Yield entries that give the same state, each operation once."""
-        yield Folder(JOURNAL_FORM, self.plan, self.site)
+        yield Folder(JOURNAL_FORM, self.plan, self.site, self.units.origin, self.units.begin)
         yield Clock(self.rate, self.now, self.stop)
         for seat in self.seats[1:]:
             if seat.key:
@@ -356,6 +385,7 @@ class State:
                 yield Take(seat.index, seat.upto)
             if seat.done:
                 yield Keys(seat.index, [*seat.done.items()])
+            yield from (NamedVariant(seat.index, name, *variant) for name, variant in seat.variants.items())
 
     def _shared_entry(self, operation: Operation) -> Entry:
         if operation in self.makers:

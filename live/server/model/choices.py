@@ -94,11 +94,13 @@ def sendable(road: Road, shared: Road, own: Collection[Operation], stamps: Abstr
             and (one.undoes is None or one.undoes in shared.operations.held) and (stamps is None or one.stamp in stamps)]
 
 
-def find_forgettable(road: Road, shared: Road, own: Collection[Operation], kept: int) -> set[Operation]:
+def find_forgettable(road: Road, shared: Road, own: Collection[Operation], kept: int,
+                     spared: AbstractSet[Stamp] = frozenset()) -> set[Operation]:
     """Return the private operations of a seat that can be forgotten without any effect on the road: those that are undone, with their
-    undos, and those on private layers that are withdrawn. Leave out the newest `kept`, which undo and redo may need."""
+    undos, and those on private layers that are withdrawn. Leave out the newest `kept`, which undo and redo may need, and those with the
+    stamps `spared`."""
     some = private(road, shared, own)
-    gone = set(some[:max(0, len(some) - kept)])
+    gone = {one for one in some[:max(0, len(some) - kept)] if one.stamp not in spared}
     while needed := {one for one in gone if is_needed(road, one, gone)}:
         gone -= needed
     return gone

@@ -8,9 +8,8 @@ import subprocess
 import sys
 from dataclasses import dataclass, field
 from pathlib import Path
-from typing import Iterator, Mapping, Sequence, TypedDict, cast
+from typing import Iterator, Mapping, NotRequired, Sequence, TypedDict, cast
 
-from zegdrut import LabError
 from zegdrut.commands.freeway import FIGURES
 from zegdrut.program.wire import PlanLine
 from zegdrut.roads.clock import Clock
@@ -36,15 +35,17 @@ DOING = " .."  # the end of a line that reports progress
 @dataclass(frozen=True)
 class NewRoad:
     """A plan line, and the shapes that are shared from the start; each has the demand that its chance stands for, or None. `name` is that
-    of a freeway's file."""
+    of a freeway's file. `origin` is the cell at km 0, and `lead` the step at minute 0 of that file: 0 without an approach."""
 
     plan: Mapping[str, Json]
     shapes: Sequence[tuple[Shape, float | None]] = field(default_factory=list)
     name: str = ""
+    origin: int = 0
+    lead: int = 0
 
 
 def clock_of(folder: Path) -> Clock | None:
-    """Return the time of day of a folder's road, if its file is a freeway with a `begin`. None: times count from 0:00."""
+    """Return the time of day of minute 0 of a folder's road, if its file is a freeway with a `begin`. None: times count from 0:00."""
     try:
         value = json.loads((folder / FREEWAY_FILE).read_bytes())
         return Clock.read(*(value.get(name) for name in ("begin", "date", "timezone"))) if value.get("begin") is not None else None
@@ -52,14 +53,17 @@ def clock_of(folder: Path) -> Clock | None:
         return None
 
 
-def find_profile_end(folder: Path) -> int | None:
-    """Return the step at which the demand profile of a folder's file ends. None: its file has no demand that changes over time."""
+def find_profile_end(folder: Path, lead: int) -> int | None:
+    """Return the step at which the demand profile of a folder's file ends, whose minute 0 is the step `lead`. None: its file has no demand
+    that changes over time, or is not a freeway file."""
     try:
-        figures = FIGURES.override(folder / FREEWAY_FILE)
-    except (OSError, LabError):
+        value = json.loads((folder / FREEWAY_FILE).read_bytes())
+        # (The folder does not have the table of a demand in a CSV file, so only its name is read.)
+        demands = [value.get("main", FIGURES.main), *(demand for _, demand in value.get("ramps", FIGURES.ramps))]
+        end = lead + to_steps(value.get("minutes", FIGURES.minutes))
+    except (OSError, ValueError, TypeError, AttributeError):
         return None
-    changes = any(isinstance(demand, list) for demand in (figures.main, *(demand for _, demand in figures.ramps)))
-    return to_steps(figures.minutes) if changes else None
+    return end if any(isinstance(demand, (list, dict)) for demand in demands) else None
 
 
 def name_of(folder: Path) -> str:
@@ -101,14 +105,20 @@ def read_road(path: Path, program: str) -> NewRoad:
         works: list[tuple[Shape, float | None]] = [(shape, None) for shape in shapes if shape.kind != INFLOW]
         chances = [int(chance) for _, chance in cast("list[list[int]]", said["plan"]["inlets"])]
         return NewRoad(said["plan"], [*demand_shapes(chances, shapes, said["demands"]), *works],
-                       clean_text(path.name, LONGEST_NAME) or "freeway")
+                       clean_text(path.name, LONGEST_NAME) or "freeway", said.get("origin", 0), said.get("lead", 0))
     except Malformed as fault:
         raise CannotStart(f"{path}: {fault}") from None
 
 
-ConvertedFreeway = TypedDict("ConvertedFreeway", {
-    "plan": Mapping[str, Json], "shapes": Sequence[Json], "demands": Sequence["Sequence[tuple[int, float]]"]})
-"""What the recipe prints for a freeway. `demands` has for each inlet its (step, cars per hour), each in force until the next."""
+class ConvertedFreeway(TypedDict):
+    """The fields that the recipe prints for a freeway. `demands` has for each inlet its (step, cars per hour), each in force until the next.
+    Only a road with an approach has `origin` and `lead`, as in `NewRoad`."""
+
+    plan: Mapping[str, Json]
+    shapes: Sequence[Json]
+    demands: Sequence[Sequence[tuple[int, float]]]
+    origin: NotRequired[int]
+    lead: NotRequired[int]
 
 
 def demand_shapes(chances: Sequence[int], shapes: Sequence[Shape],

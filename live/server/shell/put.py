@@ -1,9 +1,10 @@
 """Read a change as an engineer writes it, in km, km/h, cars per hour and clock times, as the page's form does.
 
-    what = read_change(["limit", "54", "1.5", "2.25", "07:00", "07:10"], plan, clock)
+    what = read_change(["limit", "54", "1.5", "2.25", "07:00", "07:10"], plan, units, clock)
     what.shape                          ["limit", 4, 5, 1800, 2400, 2]
 
-The words are those of `live/road NAME put`. A demand has no chance yet: `find_chance` finds it in the curve of its inlet.
+The words are those of `live/road NAME put`. `units` has the cell at km 0 and the step at minute 0, and `clock` is the time of day then. A
+demand has no chance yet: `find_chance` finds it in the curve of its inlet.
 """
 from __future__ import annotations
 
@@ -13,7 +14,7 @@ from typing import TYPE_CHECKING, Sequence, TypedDict
 
 from zegdrut.program.wire import PlanLine, WrittenEdit
 from zegdrut.roads.clock import Clock, InvalidTime
-from zegdrut.roads.units import KMH, to_cells, to_chance, to_km, to_limit
+from zegdrut.roads.units import KMH, Units, to_cells, to_chance, to_limit, to_steps
 
 from ..model.operations import CAPACITY, Shape
 
@@ -46,7 +47,7 @@ InletState = TypedDict("InletState", {"inlet": int, "start": "int | None", "befo
 in 1/65,536."""
 
 
-def read_change(words: Sequence[str], plan: PlanLine, clock: Clock) -> WrittenChange:
+def read_change(words: Sequence[str], plan: PlanLine, units: Units, clock: Clock) -> WrittenChange:
     """Return the change that these words describe. Raise `InvalidWords` if they cannot be read, or if the road has no such place."""
     kind = words[0] if words else ""
     if kind not in HOW:
@@ -59,37 +60,48 @@ def read_change(words: Sequence[str], plan: PlanLine, clock: Clock) -> WrittenCh
     cars = int(parse_number(value or "", "a number of cars per hour")) if kind == "capacity" else None
     value = value if cars is None else given.pop(0)
     places = [given.pop(0) for _ in range(1 if kind in ("demand", "detector") else 2)]
-    begin, end = read_times(given, clock)
+    begin, end = read_times(given, units, clock)
     number, said = read_value("limit" if kind == "capacity" else kind, value)
-    first, last, where = find_places(kind, [parse_number(one, "a number of km") for one in places], plan)
-    times = f"from {clock.to_text(begin)} on" if end is None else f"{clock.to_text(begin)} to {clock.to_text(end)}"
+    first, last, where = find_places(kind, [parse_number(one, "a number of km", -math.inf) for one in places], plan, units)
+    since = clock.to_text(begin - units.begin)
+    times = f"from {since} on" if end is None else f"{since} to {clock.to_text(end - units.begin)}"
     shape = Shape(KIND_OF_WORD[kind], first, last, begin, end, number if cars is None else (cars, number, 0, 0))
     return WrittenChange(shape, float(value or 0) if kind == "demand" else None,
                          f"{'' if cars is None else f'capacity {cars:,} cars/h, '}{said}, {where}, {times}")
 
 
-def parse_number(text: str, accepted: str) -> float:
-    """Return a number of 0 or more. Raise `InvalidWords` if the text is not one; `accepted` says what is accepted."""
+def parse_number(text: str, accepted: str, least: float = 0.0) -> float:
+    """Return a number of at least `least`. Raise `InvalidWords` if the text is not one; `accepted` says what is accepted."""
     try:
         number = float(text.replace(",", "."))
     except ValueError:
-        number = -1.0
-    if not 0 <= number < math.inf:
+        number = math.nan
+    if not (number >= least and math.isfinite(number)):
         raise InvalidWords(f"{text!r} is not {accepted}")
     return number
 
 
-def read_times(given: Sequence[str], clock: Clock) -> tuple[int, int | None]:
+def read_times(given: Sequence[str], units: Units, clock: Clock) -> tuple[int, int | None]:
     """Return the steps of a beginning and of an end, which may be missing. Raise `InvalidWords` if they are not times, or if the end is
     not later than the beginning."""
     try:
-        steps = [clock.to_step(float(one) if one.replace(".", "", 1).isdigit() else one, name) for one, name in zip(given, ("BEGIN", "END"))]
+        steps = [read_time(one, name, units.begin, clock) for one, name in zip(given, ("BEGIN", "END"))]
     except InvalidTime as fault:
         raise InvalidWords(str(fault)) from None
     begin, end = steps[0], steps[1] if len(steps) > 1 else None
     if end is not None and end <= begin:
         raise InvalidWords(f"END: {given[1]} is not later than {given[0]}")
     return begin, end
+
+
+def read_time(text: str, name: str, lead: int, clock: Clock) -> int:
+    """Return the step of a clock time, or of minutes after minute 0, which is the step `lead`. Raise `InvalidTime` if the text is neither, or
+    before the run."""
+    if text.removeprefix("-").replace(".", "", 1).isdigit():
+        step = lead + to_steps(float(text))
+        if step >= 0:
+            return step
+    return clock.shift(-lead).to_step(text, name)
 
 
 def read_value(kind: str, text: str | None) -> tuple[int, str]:
@@ -114,28 +126,28 @@ def read_value(kind: str, text: str | None) -> tuple[int, str]:
     return to_chance(number / 100), f"{kind} {number:g} %"
 
 
-def find_places(kind: str, places: Sequence[float], plan: PlanLine) -> tuple[int, int, str]:
+def find_places(kind: str, places: Sequence[float], plan: PlanLine, units: Units) -> tuple[int, int, str]:
     """Return the first and the last object at places in km, and a text that says where these are. Raise `InvalidWords` if a place is not
     on the road."""
-    end = to_km(plan["length"])
-    if max(places) > end + 1e-9 or len(places) == 2 and places[0] > places[1]:
-        raise InvalidWords(f"{' to '.join(f'{one:g}' for one in places)} km: give two places from 0 to {end:g} km, the smaller first"
-                           if len(places) == 2 else f"{places[0]:g} km is not on the road: give a place from 0 to {end:g} km")
+    start, end = units.to_km(0), units.to_km(plan["length"])
+    if min(places) < start - 1e-9 or max(places) > end + 1e-9 or len(places) == 2 and places[0] > places[1]:
+        raise InvalidWords(f"{' to '.join(f'{one:g}' for one in places)} km: give two places from {start:g} to {end:g} km, the smaller first"
+                           if len(places) == 2 else f"{places[0]:g} km is not on the road: give a place from {start:g} to {end:g} km")
     if kind in ("demand", "detector"):
         cells = [cell for cell, _ in plan["inlets"]] if kind == "demand" else plan["detectors"]
         if not cells:
             raise InvalidWords("the road has no " + ("inlet" if kind == "demand" else "detector"))
-        index = min(range(len(cells)), key=lambda one: abs(cells[one] - to_cells(places[0])))
-        return index, index, f"at km {to_km(cells[index]):g}"
-    low, high = (to_cells(one) for one in places)
+        index = min(range(len(cells)), key=lambda one: abs(cells[one] - units.origin - to_cells(places[0])))
+        return index, index, f"at {units.place(cells[index])}"
+    low, high = (to_cells(one) + units.origin for one in places)
     if kind == "close":
         first = min(low, plan["length"] - 1)
         last = max(first, min(high, plan["length"]) - 1)
-        return first, last, f"km {to_km(first):g} to {to_km(last + 1):g}"
+        return first, last, f"{units.place(first)} to {units.place_value(last + 1)}"
     zones, zone = len(plan["zones"]), plan["zone"]
     first = min(round(low / zone), zones - 1)
     last = max(first, min(round(high / zone), zones) - 1)
-    return first, last, f"km {to_km(first * zone):g} to {to_km(min((last + 1) * zone, plan['length'])):g}"
+    return first, last, f"{units.place(first * zone)} to {units.place_value(min((last + 1) * zone, plan['length']))}"
 
 
 def find_state(plan: PlanLine, edits: Sequence[WrittenEdit], inlet: int, step: int) -> InletState:

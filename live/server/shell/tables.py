@@ -15,7 +15,7 @@ from typing import Iterator, Mapping, NamedTuple, Sequence
 
 from zegdrut.program.wire import PlanLine
 from zegdrut.roads.clock import Clock
-from zegdrut.roads.units import KMH, to_km
+from zegdrut.roads.units import KMH, Units
 
 from ..journal.journal_lines import JOURNAL, CannotStart, Entries, to_json
 from ..journal.state import NO_PLAN, State
@@ -46,9 +46,11 @@ class HeldOperation(NamedTuple):
 
 
 class Tables(NamedTuple):
-    """The contents of the tables: the plan, the road's time of day, operations, and the rows of seats and shares."""
+    """The contents of the tables: the plan, its units of places and times, the time of day of minute 0, operations, and the rows of seats and
+    shares."""
 
     plan: PlanLine
+    units: Units
     clock: Clock
     operations: Sequence[HeldOperation]
     seats: Sequence[Row]
@@ -71,7 +73,7 @@ def read_folder(folder: Path) -> Tables:
     held = dict.fromkeys([*state.shared.places, *(one for seat in state.seats for one in seat.own)])
     operations = [HeldOperation(one, one in state.shared.places, state.makers.get(one)) for one in held if not isinstance(one, Unreadable)]
     seats = [(seat.index, seat.name, len(seat.shareable())) for seat in state.seats[1:] if seat.key]
-    return Tables(state.plan, new_road.clock_of(folder) or Clock(), operations, seats,
+    return Tables(state.plan, state.units, new_road.clock_of(folder) or Clock(), operations, seats,
                   [share_row(one.reply_fields()) for one in state.shares])
 
 
@@ -115,8 +117,8 @@ def shape_row(operation: Operation, tables: Tables) -> Row:
         return *names, *[None] * 6, "withdrawn", *[None] * 4
     kind, first, last, begin, end, value = operation.shape
     return (*names, kind, first, last, begin, end, value[0] if isinstance(value, tuple) else value,
-            describe_value(operation.shape, operation.about.more.get("demand")), *find_places(tables.plan, kind, first, last),
-            tables.clock.to_date_text(begin), None if end is None else tables.clock.to_date_text(end))
+            describe_value(operation.shape, operation.about.more.get("demand")), *find_places(tables, kind, first, last),
+            *(None if step is None else tables.clock.to_date_text(step - tables.units.begin) for step in (begin, end)))
 
 
 def describe_value(shape: Shape, demand: Json) -> str:
@@ -136,15 +138,18 @@ def describe_value(shape: Shape, demand: Json) -> str:
     return f"{word} {value * PERCENT:.4g} %"
 
 
-def find_places(plan: PlanLine, kind: str, first: int, last: int) -> tuple[float, float]:
+def find_places(tables: Tables, kind: str, first: int, last: int) -> tuple[float, float]:
     """Return where the objects `first` to `last` of a kind begin and end, in km. An inlet or a detector begins and ends at its cell."""
+    plan = tables.plan
     if kind == "block":
-        return to_km(first), to_km(last + 1)
-    if kind == "inflow":
-        return to_km(plan["inlets"][first][0]), to_km(plan["inlets"][last][0])
-    if kind == "watch":
-        return to_km(plan["detectors"][first]), to_km(plan["detectors"][last])
-    return to_km(first * plan["zone"]), to_km(min((last + 1) * plan["zone"], plan["length"]))
+        cells = first, last + 1
+    elif kind == "inflow":
+        cells = plan["inlets"][first][0], plan["inlets"][last][0]
+    elif kind == "watch":
+        cells = plan["detectors"][first], plan["detectors"][last]
+    else:
+        cells = first * plan["zone"], min((last + 1) * plan["zone"], plan["length"])
+    return tables.units.to_km(cells[0]), tables.units.to_km(cells[1])
 
 
 def stamp_text(stamp: Stamp) -> str:

@@ -5,19 +5,19 @@ from typing import Mapping, Sequence, TypedDict
 
 from zegdrut.program.wire import PlanLine, WrittenEdit
 
-from ..figures.figures import DetectorFigures, Head, Row, TwoTimes
+from ..figures.figures import DetectorFigures, Head, MeanTimes, Row
 from ..model.operations import Capacity, Json, Shape, Stamp
 from ..sites.peers import BrokerState
 from .change_list import ListedOperation, Line
 from .seating import ListedSeat
 
 Day = TypedDict("Day", {"begin": "int | None", "date": "str | None", "zone": "str | None"})
-"""The time of day at step 0 in seconds after midnight, the date and the time zone; null if the road's file does not have them."""
+"""The time of day at minute 0 of the road's file in seconds after midnight, the date and the time zone; null if the file has none."""
 Welcome = TypedDict("Welcome", {
     "at": str, "seat": int, "name": str, "key": str, "form": int, "site": str, "plan": PlanLine, "horizon": int,
     "rate": float, "now": int, "stop": int, "ahead": int, "time": float, "most": Mapping[str, int], "broker": "BrokerState | None",
-    "trouble": "str | None", "standing": "str | None", "day": Day, "demand_end": "int | None", "road": str,
-    "figures": Sequence[Head]}, total=False)
+    "trouble": "str | None", "standing": "str | None", "day": Day, "origin": int, "lead": int, "demand_end": "int | None", "road": str,
+    "figures": Sequence[Head], "variants": Sequence[str]}, total=False)
 SkippedOperation = TypedDict("SkippedOperation", {"stamp": Stamp, "by": Sequence[str]})
 """An operation of the seat that undo skips, and the names of those who changed its line since."""
 NewsFrame = TypedDict("NewsFrame", {
@@ -32,8 +32,8 @@ Frame = TypedDict("Frame", {
     "stamp": Stamp, "touched": "int | None", "again": bool, "layers": Sequence[Line], "since": int, "next": int, "more": bool,
     "undo": "Stamp | None", "redo": "Stamp | None", "blocked": Sequence[SkippedOperation], "size": int, "stamps": Sequence[Stamp],
     "changes": Sequence[ListedOperation], "operations": Sequence[ReplicaOperation], "horizon": int, "cells": str, "rows": Sequence[str],
-    "cars": Json, "speeds": int, "edits": Sequence[WrittenEdit], "sums": Sequence[int], "flows": Sequence[DetectorFigures],
-    "counts": Json, "from": int, "to": int, "figures": Sequence[Row], "entries": TwoTimes, "days": int, "stopped": bool, "lines": str,
+    "cars": Json, "speeds": int, "edits": Sequence[WrittenEdit], "sums": Sequence[int], "approach": Sequence[int], "flows": Sequence[DetectorFigures],
+    "counts": Json, "from": int, "to": int, "figures": Sequence[Row], "entries": Sequence[MeanTimes], "variants": Sequence[str], "days": int, "stopped": bool, "lines": str,
     "html": str, "csv": str, "points": Sequence["tuple[int, float]"], "capacity": float, "value": Capacity, "now": int,
     "news": NewsFrame, "pong": Json, "broker": BrokerState, "trouble": "str | None", "program": Mapping[str, int]}, total=False)
 """The fields of all replies and news. Each frame has some of them."""

@@ -12,33 +12,35 @@ from zegdrut.figures.trips import Window
 from zegdrut.program.grammar import LAST_HORIZON
 from zegdrut.program.rows import count_cars
 from zegdrut.program.wire import WrittenEdit
+from zegdrut.roads.clock import Clock
+from zegdrut.roads.units import Units
 
 from ..figures import admission, comparison, figures, files, report
 from ..figures.child import Child, wait_for_slot
-from ..figures.figures import DetectorFigures, FiguresAnswer, FiguresQuestion, TwoDemands, TwoRoads
+from ..figures.figures import ComparedRoads, DetectorFigures, FiguresAnswer, FiguresQuestion
 from ..figures.report import ReportAnswer, ReportQuestion
 from ..journal.journal_lines import to_json
 from ..journal.keeper import SHARED
-from ..journal.lab import Lab
+from ..journal.lab import LIST_AT_ONCE, Lab
 from ..journal.lab import ReplyFields as Fields
 from ..journal.road_clock import STEPS_AHEAD
 from ..journal.state import Replica
 from ..model.choices import sendable
-from ..model.demands import asked_demands
 from ..model.lines import all_lines, find_altered_lines
 from ..model.operations import Json, Operation, Stamp, Unreadable
-from ..model.projection import Edits, value_of
+from ..model.projection import value_of
 from ..model.road import Road
 from ..model.visibility import visible_rectangles
 from ..roads import rows
+from ..roads.fixed_roads import FILE, VARIANT, FixedRoad
 from ..roads.program import LONG_ROAD, Times
 from ..roads.new_road import clock_of, name_of
-from ..roads.previews import SIDES, Preview, PreviewRoad, Previews
-from ..roads.roads import QueryRoad, ReplicaRoad
-from ..roads.screen import first_step, rows_of
+from ..roads.roads import QueryRoad
+from ..roads.screen import first_step
 from ..roads.turns import MORE, Job, More
 from .change_list import Line, Lister
 from .refusals import Refused
+from .seat_roads import SeatRoads
 
 MOST_ROWS, MOST_BYTES = 1_024, 1_100_000  # rows in a reply, and their bytes
 MOST_COUNTS = 4_096
@@ -58,27 +60,21 @@ class Questions:
 
     def __init__(self, lab: Lab) -> None:
         self._lab, self._keeper = lab, lab.keeper
-        self._previews, self._comparisons = Previews(), comparison.Comparisons()
+        self.roads, self._comparisons = SeatRoads(lab.keeper), comparison.Comparisons()
         self._figures: Child[FiguresQuestion, FiguresAnswer] = Child("server.figures.figures", figures.NICE)
         self._reports: Child[ReportQuestion, ReportAnswer] = Child("server.figures.report", report.NICE)
         self._saved, self._curves = files.Transcripts(), admission.Curves(lab.keeper.folder)
 
-    def road(self, index: int, at: str) -> QueryRoad:
-        """Return a road of a seat. `at` is "own", "shared", or a side of its preview."""
-        if at in SIDES:
-            return PreviewRoad(self._previews.get(index), at)
-        return ReplicaRoad(self._keeper, index, 0 if at == "shared" else index)
-
     def close(self) -> None:
-        self._previews.close()
+        self.roads.close()
         self._comparisons.stop()
         self._figures.close()
         self._reports.close()
         self._curves.child.close()
 
     def drop_seat(self, index: int) -> None:
-        """Drop previews, questions and transcripts of a seat whose tab has gone."""
-        self._previews.put(index, None)
+        """Drop fixed roads, questions and transcripts of a seat whose tab has gone."""
+        self.roads.drop_seat(index)
         self._comparisons.stop(index)
         self._saved.drop(index)
 
@@ -137,6 +133,10 @@ class Questions:
     def _length(self) -> int:
         return self._keeper.state.plan["length"]
 
+    @property
+    def _units(self) -> Units:
+        return self._keeper.state.units
+
     def _rows_at_once(self) -> int:
         return min(MOST_ROWS, MOST_BYTES // (self._length + 3))
 
@@ -153,18 +153,20 @@ class Questions:
         return found
 
     async def sums(self, road: QueryRoad, times: Times, first: int, last: int) -> Reply:
-        """Return for each whole minute the time that cars spend on the road, in car-seconds: the sum of the cars in its 60 rows."""
+        """Return for each whole minute the time that cars spend on the road, in car-seconds: the sum of the cars in its 60 rows. If the road
+        has an approach, also return the time that they spend there."""
         if first % MINUTE or last % MINUTE or not 0 < last - first <= MOST_MINUTES * MINUTE:
             raise Refused("Range", f"`from` and `to` must be multiples of {MINUTE}, and 1 to {MOST_MINUTES} minutes apart")
-        cars: list[int] = []
+        cars, origin = list[tuple[int, int]](), self._units.origin
 
         async def body() -> More | None:
             start = first + 1 + len(cars)
             part = await self._ask_rows(road, list(range(start, min(last + 1, start + self._rows_at_once()))), times)
-            cars.extend(count_cars(row.decode("ascii")) for row in part)
+            cars.extend((count_cars(row), count_cars(row[:origin])) for row in (one.decode("ascii") for one in part))
             return MORE if len(cars) < last - first else None
         await self._of_one_road(road, cars, body)
-        return {"sums": [sum(cars[begin:begin + MINUTE]) for begin in range(0, len(cars), MINUTE)]}
+        all_cars, on_approach = ([sum(each[begin:begin + MINUTE]) for begin in range(0, len(cars), MINUTE)] for each in zip(*cars))
+        return {"sums": all_cars, **({"approach": on_approach} if origin else {})}
 
     async def counts(self, road: QueryRoad, times: Times, *, first: int, last: int, each: int | None) -> Reply:
         """Return what all detectors count, in spans of `each` steps or as a whole."""
@@ -199,10 +201,10 @@ class Questions:
                 found.extend(await road.say_all(lines[len(found):len(found) + ASKED_AT_ONCE], times))
             return MORE if len(found) < len(lines) else None
         mark = await self._of_one_road(road, found, body)
-        if isinstance(road, PreviewRoad):
-            return found, road.edits
-        assert mark is not None  # (only the roads of a preview never change)
-        return found, rows_of(await self._timeline(mark))
+        if isinstance(road, FixedRoad):
+            return found, (await road.know()).edits
+        assert mark is not None  # (only fixed roads never change)
+        return found, await self.roads.edits_of(mark)
 
     async def _of_one_road(self, road: QueryRoad, found: list[T], body: Job[None]) -> Road | None:
         """Call `body`, which appends to `found`, until it is done. If the road changes meanwhile, empty `found` and begin again. Return
@@ -253,14 +255,15 @@ class Questions:
 
     async def admission(self, inlet: int, start: int | None, before: list[tuple[int, int]]) -> Reply:
         """Return how many cars an inlet admits at each inflow chance, with the plan's drivers and the traffic from inlets upstream, whose
-        indexes and chances are `before`. `start` is the slow-to-start chance of the inlet's zone at step 0, or None."""
-        plan = self._keeper.state.plan
+        indexes and chances are `before`. `start` is the slow-to-start chance of the inlet's zone at step 0, or None. An approach changes
+        no flow, so it is left out."""
+        plan, origin = self._keeper.state.plan, self._units.origin
         cell = plan["inlets"][inlet][0]
         limit, slowing = plan["zones"][cell // plan["zone"]]
-        beside = sorted((plan["inlets"][one][0], chance_of) for one, chance_of in before if chance_of)
+        beside = sorted((max(plan["inlets"][one][0] - origin, 0), chance_of) for one, chance_of in before if chance_of)
         entry = find_entry(plan, cell) if beside else 0
         return await self._curves.find_curve({"limit": limit, "slowing": slowing, "start": start, "entry": entry,
-                                                  "cell": cell if beside else 0, "before": beside}, self._keeper.path)
+                                                  "cell": cell - origin if beside else 0, "before": beside}, self._keeper.path)
 
     async def capacity(self, road: Road, first: int, last: int, cars: int, limit: int) -> Reply:
         """Return the value of a shape of kind `capacity` on the zones `first` to `last`: works with a limit that leave some cars per hour
@@ -283,10 +286,10 @@ class Questions:
         """Return the lines that sharing or taking would change, and keep the roads before and after for queries. `what` is "share",
         "take", or None, which drops the last preview. The reply waits until all that it shows is on the disk."""
         if what is None:
-            self._previews.put(index, None)
+            self.roads.put_preview(index)
             return {}
 
-        async def body() -> tuple[Preview, Reply]:
+        async def body() -> tuple[tuple[Road, Road], Reply]:
             state = self._keeper.state
             own = state.seats[index]
             if what == "take":
@@ -294,23 +297,17 @@ class Questions:
             return await self._make_preview("share", state.shared, own.shareable() if stamps is None else sendable(
                 own.road, state.shared.road, own.own, stamps))
         fed = SHARED if what == "share" else index
-        preview, reply = await self._keeper.read_committed(lambda: self._keeper.ask(index, (fed,), body), "shared")
-        self._previews.put(index, preview)
+        sides, reply = await self._keeper.read_committed(lambda: self._keeper.ask(index, (fed,), body), "shared")
+        self.roads.put_preview(index, *sides)
         return reply
 
-    async def _make_preview(self, what: str, replica: Replica, added: list[Operation]) -> tuple[Preview, Reply]:
+    async def _make_preview(self, what: str, replica: Replica, added: list[Operation]) -> tuple[tuple[Road, Road], Reply]:
         """Return the roads of a replica without and with some operations, and the lines of its list that they change."""
         before = replica.road
         after = before.adding(added)
         edits = await self._keeper.differences.between(before, after)
-        sides = [await self._timeline(road) for road in (before, after)]
         lines = await self._lines_of(replica, before, after, {one.stamp for one in added})
-        was, will_be = map(rows_of, sides)
-        return Preview(self._keeper, was, will_be, self._demands(before, after)), {"what": what, "size": len(added), "layers": lines,
-                                                            "touched": first_step(edits)}
-
-    async def _timeline(self, road: Road) -> Edits:
-        return await self._keeper.differences.between(self._keeper.state.empty, road)
+        return (before, after), {"what": what, "size": len(added), "layers": lines, "touched": first_step(edits)}
 
     async def _lines_of(self, replica: Replica, before: Road, after: Road,
                         added: set[Stamp]) -> list[Line]:
@@ -331,54 +328,53 @@ class Questions:
                 began = time.perf_counter()
         return found
 
-    async def figures(self, index: int, own: Replica, of: str, first: int, last: int) -> Reply:
-        """Return the figures of two roads: of the preview if `of` is "preview", else of the shared road and the seat's own."""
-        roads = await self._find_both_roads(index, own, of, first, last)
-        slots = [f"{index} before", f"{index} after"] if of == "preview" else ["shared", f"{index} own"]
-        said = await self._figures.ask_in_turn(index, {"roads": roads, "slots": slots, "seconds": figures.SECONDS}, roads["program"])
+    async def list_fixed(self, road: FixedRoad, index: int, version: int) -> Reply:
+        """Return the lines of the list of a road that does not change, behind a version of it."""
+        state, known = self._keeper.state, (await road.know()).road
+        marks = {line: place for place, line in enumerate(sorted(all_lines(known)), 1)}
+        lines, after = Lister(state, state.seats[index], known).lines_since(marks, version, LIST_AT_ONCE)
+        return {"layers": lines, "since": version, "next": len(marks) if after is None else after, "more": after is not None}
+
+    async def figures(self, index: int, of: Sequence[str], first: int, last: int) -> Reply:
+        """Return the figures of some roads, each compared with the first."""
+        compared = await self._find_roads(index, of, first, last)
+        slots = [at if at in ("shared", FILE) else f"{index} {at}" for at in of]
+        said = await self._figures.ask_in_turn(index, {"compared": compared, "slots": slots, "seconds": figures.SECONDS}, compared["program"])
         if "done" in said:
             raise Refused("Busy", f"the figures are computed up to step {said['done']} of {last} so far: ask again")
         return {"from": first, "to": last, **said}
 
-    async def _find_both_roads(self, index: int, own: Replica, of: str | None, first: int, last: int) -> TwoRoads:
-        """Return two roads and a window, for a program that simulates them."""
+    async def _find_roads(self, index: int, of: Sequence[str], first: int, last: int) -> ComparedRoads:
+        """Return roads and a window, for a program that simulates them."""
         if first >= last:
             raise Refused("Range", f"`from` {first} must be below `to` {last}")
         self._require_reachable(last)
-        state = self._keeper.state
-
-        async def body() -> tuple[dict[str, Sequence[WrittenEdit]], TwoDemands]:
-            before, after = state.shared.road, own.road
-            edits: dict[str, Sequence[WrittenEdit]] = {
-                "before": rows_of(await self._timeline(before)), "after": rows_of(await self._timeline(after))}
-            return edits, self._demands(before, after)
-        if of == "preview":
-            preview = self._previews.get(index)
-            edits, demands = preview.edits, preview.demands
-        else:
-            edits, demands = await self._keeper.ask(index, (0, index), body)
-        plan = state.plan.copy()
+        plan = self._keeper.state.plan.copy()
         plan["replicas"] = ["road"]
-        return {"plan": plan, "first": first, "last": last, "program": self._keeper.path, "before": edits["before"],
-                "after": edits["after"], "demands": demands, "names": ["before", "after"] if of == "preview" else ["shared", "mine"]}
+        return {"plan": plan, "first": first, "last": last, "program": self._keeper.path, "roads": await self.roads.compare(index, of),
+                "origin": self._units.origin}
 
-    def _demands(self, before: Road, after: Road) -> TwoDemands:
-        """Return the demands that were asked for on two roads."""
-        inlets = len(self._keeper.state.plan["inlets"])
-        return {"before": asked_demands(before, inlets), "after": asked_demands(after, inlets)}
+    async def stop_days(self, index: int) -> Reply:
+        """Stop the comparison of a seat over many days."""
+        return {"stopped": self._comparisons.stop(index)}
 
-    async def days(self, index: int, own: Replica, of: str | None, first: int, last: int) -> Reply:
-        """Return the figures of two roads over many days, each with its mean and interval. If `of` is None, stop that question."""
-        if of is None:
-            return {"stopped": self._comparisons.stop(index)}
+    async def days(self, index: int, of: Sequence[str], first: int, last: int) -> Reply:
+        """Return the figures of some roads over many days, each with its mean and interval."""
         number = self._keeper.settings.days
-        if not isinstance(self._keeper.state.plan["words"], int):
-            raise Refused("OneDay", "this road has fixed random numbers (no seed), so all days are the same: look at the figures of "
-                          "this day")
+        self._require_days(number)
         return {"from": first, "to": last, **await self._comparisons.compare(
             comparison.Comparison(index, number), lambda other: self._keeper.state.seats[other].name,
-            lambda: self._find_both_roads(index, own, of, first, last),
+            lambda: self._find_roads(index, of, first, last),
             lambda done: self._keeper.listeners.days.notify(index, done, number))}
+
+    def _require_days(self, number: int) -> None:
+        """Raise `Refused` if roads cannot be compared over a number of days."""
+        most = self._keeper.settings.days
+        if not 1 <= number <= most:
+            raise Refused("Range", f"`days` must be 1 to {most}, not {number}")
+        if number > 1 and not isinstance(self._keeper.state.plan["words"], int):
+            raise Refused("OneDay", "this road has fixed random numbers (no seed), so all days are the same: look at the figures of "
+                          "this day")
 
     # What is saved
 
@@ -391,26 +387,37 @@ class Questions:
             self._saved.make_room(index)
             async with wait_for_slot(index):
                 name = self._keeper.state.seats[replica.index].name or replica.at
-                lines = files.script(self._keeper.state.plan, name, rows_of(await self._timeline(replica.road)), first, last)
+                lines = files.script(self._keeper.state.plan, name, await self.roads.edits_of(replica.road), first, last)
                 self._saved.put(index, await files.transcript(self._keeper.path, self._keeper.state.plan, lines))
         text, following = self._saved.take(index, piece)
         return {"lines": text, "next": following}
 
-    async def report(self, index: int, own: Replica, of: str, first: int, last: int, title: str, works: list[str]) -> Reply:
-        """Return the report on two roads: of the preview if `of` is "preview", else of the shared road and the seat's own."""
-        roads = await self._find_both_roads(index, own, of, first, last)
-        day, seat = clock_of(self._keeper.folder), self._keeper.state.seats[index]
-        roads["names"] = ["before", "after"] if of == "preview" else ["shared", seat.name or seat.at]
-        clock = () if day is None else (day.to_text(0), *(None if one is None else str(one) for one in (day.date, day.zone)))
-        asked: ReportQuestion = {"roads": roads, "title": title, "works": works, "clock": clock, "days": report.DAYS}
-        return {"from": first, "to": last, **await self._reports.ask_in_turn(index, asked, roads["program"])}
+    async def report(self, index: int, of: Sequence[str], first: int, last: int, title: str, works: list[str], approach: bool,
+                     number: int | None) -> Reply:
+        """Return the report on some roads over a number of days, each road compared with the first. The seat's own road is called by the
+        seat's name. Its diagrams show the approach, too, if `approach` says so."""
+        if number is not None:
+            self._require_days(number)
+        compared = await self._find_roads(index, of, first, last)
+        day, seat = clock_of(self._keeper.folder) or Clock(), self._keeper.state.seats[index]
+        for road, at in zip(compared["roads"], of):
+            road["name"] = seat.name or seat.at if at == "own" else road["name"]
+        begin = day.shift(-self._units.begin)
+        clock = (begin.to_text(0), *(None if one is None else str(one) for one in (begin.date, begin.zone)))
+        asked: ReportQuestion = {"compared": compared, "title": title, "works": works, "clock": clock, "days": number or report.DAYS,
+                                 "approach": approach}
+        said = await self._reports.ask_in_turn(index, asked, compared["program"])
+        if "why" in said:
+            raise Refused("TooLong", said["why"])
+        return {"from": first, "to": last, **said}
 
     async def table_of_counts(self, road: QueryRoad, times: Times, first: int, last: int, each: int) -> Reply:
         """Return a table of what detectors count, as CSV, for each span of `each` steps."""
         spans = await self._count_spans(road, times, first, last, each)
-        title = f"counts of {self._road_name(road.name)}{self._file_and_date()}, {self.say_time(first)} to {self.say_time(last)}"
+        say_time = files.time_writer(clock_of(self._keeper.folder), self._units.begin)
+        title = f"counts of {self._road_name(road.name)}{self._file_and_date()}, {say_time(first)} to {say_time(last)}"
         windows = [Window(start, min(last, start + each)) for start in range(first, last, each)]
-        return {"csv": files.table_of_counts(self._keeper.state.plan, title, self.say_time, windows, spans)}
+        return {"csv": files.table_of_counts(self._keeper.state.plan, self._units, title, say_time, windows, spans)}
 
     def _road_name(self, at: str) -> str:
         """Return what a road is called in saved files."""
@@ -426,14 +433,10 @@ class Questions:
         parts = [files.escape_formula(name_of(folder)), "" if day is None or day.date is None else str(day.date)]
         return "".join(f", {one}" for one in parts if one)
 
-    def say_time(self, step: int) -> str:
-        """Return the time of a step: the time of day if the road has one, else the time since step 0."""
-        day = clock_of(self._keeper.folder)
-        return f"{step // 3600}:{step // 60 % 60:02}:{step % 60:02}" if day is None else day.to_text(step)
-
-    async def script(self, index: int, replica: Replica) -> Reply:
+    async def script(self, index: int, at: str) -> Reply:
         """Return the commands that make the same road, up to the clock."""
-        to = self._keeper.now()
-        name = "shared" if replica.at == "shared" else self._keeper.state.seats[replica.index].name or replica.at
-        _, lines = files.lines_to(self._keeper.state.plan, name, rows_of(await self._timeline(replica.road)), to)
+        to, seat = self._keeper.now(), self._keeper.state.seats[index]
+        name = seat.name or seat.at if at == "own" else at.removeprefix(VARIANT)
+        road, = await self.roads.compare(index, [at])
+        _, lines = files.lines_to(self._keeper.state.plan, name, road["edits"], to)
         return {"lines": "".join(to_json(line) + "\n" for line in lines), "to": to}

@@ -8,8 +8,9 @@ from __future__ import annotations
 
 NAMES = frozenset({
     "AllSeatsTaken", "Busy", "Failed", "NameTaken", "NoEffect", "NoName", "NoPreview", "NoProgram", "NoSuchChange",
-    "NoSuchSeat", "NothingToPut", "NothingToUndo", "NotWritten", "NotYourReplica", "OneDay", "OtherVersion", "OwnSite",
-    "PrivateChanges", "SeatConnected", "SiteExcluded", "Stopped", "TooFarAhead", "TooLong", "TooManyObjects", "UnknownKey"})
+    "NoSuchSeat", "NoSuchVariant", "NothingToPut", "NothingToUndo", "NotWritten", "NotYourReplica", "OneDay", "OtherVersion", "OwnSite",
+    "PrivateChanges", "SeatConnected", "SiteExcluded", "Stopped", "TooFarAhead", "TooLong", "TooManyObjects", "TooManyVariants",
+    "UnknownKey"})
 OF_THE_FORMAT = frozenset({
     "line too long", "not json", "not a command", "unknown form", "NoReplica", "NoMessage", "NameTaken", "NoObject", "Step",
     "ValueOutOfRange", "Count", "Insider", "CountsSpent", "Horizon", "NoDetector", "Range", "NotSimulated"})

@@ -174,8 +174,9 @@ class Seating:
     async def release_seat(self, index: int) -> None:
         """Free a seat when its earlier commands are done. Raise `Refused` if it has changes that are not shared."""
         async def body() -> asyncio.Future[None]:
-            if self._state.has_private(self.require_owned(index)):
-                raise Refused("PrivateChanges", "this seat has changes that are not shared: share or undo them first")
+            if self._state.has_private(seat := self.require_owned(index)):
+                raise Refused("PrivateChanges", "this seat has variants: remove them first" if seat.variants else
+                              "this seat has changes that are not shared: share or undo them first")
             await self._keeper.require_writable()
             return self._free(index)
         await wait_until_written(await self._keeper.turns.ask(index, body), {})

@@ -273,11 +273,13 @@ class Tabs:
                 "time": round(time.time(), 3),
                 "most": {"rows": MOST_ROWS, "bytes": MOST_BYTES,
                          "days": self.lab.keeper.settings.days}, "broker": self.broker(),
-                "trouble": self._trouble, "standing": self._standing, "day": self._day(), "demand_end": new_road.find_profile_end(self.lab.keeper.folder),
-                "road": new_road.name_of(self.lab.keeper.folder), "figures": list_heads(state.plan)}
+                "trouble": self._trouble, "standing": self._standing, "day": self._day(), "origin": state.units.origin, "lead": state.units.begin,
+                "demand_end": new_road.find_profile_end(self.lab.keeper.folder, state.units.begin),
+                "road": new_road.name_of(self.lab.keeper.folder), "figures": list_heads(state.plan, state.units),
+                "variants": [*seat.variants]}
 
     def _day(self) -> Mapping[str, int | str | None]:
-        """Return the time of day at step 0 in seconds after midnight, the date and the time zone, as far as they are known."""
+        """Return the time of day at minute 0 in seconds after midnight, the date and the time zone, as far as they are known."""
         clock = new_road.clock_of(self.lab.keeper.folder)
         if clock is None:
             return {"begin": None, "date": None, "zone": None}

@@ -3,21 +3,22 @@ reader returns a function that answers the command."""
 from __future__ import annotations
 
 from dataclasses import dataclass
-from typing import Awaitable, Callable, TypeVar
+from typing import Awaitable, Callable, Sequence, TypeVar
 
 from zegdrut.program.grammar import LAST_HORIZON
 from zegdrut.program.rows import FASTEST as FASTEST_CAR
+from zegdrut.reports.report import MOST_SIDES
 
 from ..journal.keeper import SHARED
-from ..journal.lab import Author, Lab
+from ..journal.lab import Author, Lab, require_variant
 from ..journal.road_clock import FASTEST
 from ..journal.state import Replica
-from ..model.operations import Operation
-from ..model.reading import LONGEST_NOTE
+from ..model.operations import Json, Operation
+from ..model.reading import LONGEST_NAME, LONGEST_NOTE
 from ..roads.program import Times
-from ..roads.previews import SIDES
+from ..roads.fixed_roads import FILE, SIDES, VARIANT
 from ..roads.roads import QueryRoad
-from .fields import CommandFields
+from .fields import CommandFields, fold_look_alikes
 from .questions import Questions, Reply
 from .refusals import Refused, not_a_command
 
@@ -26,7 +27,8 @@ NO_ROAD = frozenset[str]()  # the command has no `at`
 OWN = frozenset({"own"})
 SHARED_ROAD = frozenset({"shared"})
 KEPT_ROADS = OWN | SHARED_ROAD
-ROADS = KEPT_ROADS | frozenset(SIDES)
+LISTED_ROADS = KEPT_ROADS | frozenset({FILE, VARIANT})  # VARIANT stands for all variants of the seat
+ROADS = LISTED_ROADS | frozenset(SIDES)
 
 
 @dataclass
@@ -36,7 +38,7 @@ class Call:
     lab: Lab
     questions: Questions
     index: int
-    at: str  # own, shared, before or after
+    at: str  # as `road_name` returns it
     times: Times
 
     @property
@@ -46,7 +48,11 @@ class Call:
 
     @property
     def road(self) -> QueryRoad:
-        return self.questions.road(self.index, self.at)
+        return self.questions.roads.find(self.index, self.at)
+
+    def names(self, of: Sequence[str]) -> list[str]:
+        """Return the names of some roads as `road_name` returns them."""
+        return [name_in(self.lab, self.index, one, ROADS) for one in of]
 
 
 Handler = Callable[[Call], Awaitable[Reply]]
@@ -87,15 +93,20 @@ async def answer(lab: Lab, questions: Questions, index: int, asked: CommandField
 
 
 def road_name(lab: Lab, index: int, asked: CommandFields, verb: Verb) -> str:
-    """Return the road that `at` names."""
-    if verb.of == NO_ROAD:
-        return "own"
-    at, own = asked.require("at"), lab.state.seats[index].at
-    meant = "own" if at == own else at
-    if type(meant) is not str or meant not in verb.of:
-        valid = " or ".join(f'"{own if one == "own" else one}"' for one in sorted(verb.of))
-        raise Refused("NotYourReplica", "a tab can change only its own road, and query only that one, the shared road and the two roads "
-                      f"of its preview: here `at` must be {valid}")
+    """Return the road that `at` names: "own", or another name."""
+    return "own" if verb.of == NO_ROAD else name_in(lab, index, asked.require("at"), verb.of)
+
+
+def name_in(lab: Lab, index: int, at: Json, valid: frozenset[str]) -> str:
+    """Return the name of a road, "own" for the seat's own. Raise `Refused` if it is not a valid one."""
+    seat = lab.state.seats[index]
+    meant = "own" if at == seat.at else at
+    if type(meant) is not str or (VARIANT if meant.startswith(VARIANT) else meant) not in valid:
+        said = [seat.at if one == "own" else one for one in sorted(valid)]
+        raise Refused("NotYourReplica", "a tab can change only its own road, and query only that one, the shared road, the two roads of its "
+                      f"preview, its variants and the file's road: here a road must be {' or '.join(f'{chr(34)}{one}{chr(34)}' for one in said)}")
+    if meant.startswith(VARIANT):
+        require_variant(seat, meant.removeprefix(VARIANT))
     return meant
 
 
@@ -117,11 +128,11 @@ def read_steps(asked: CommandFields) -> tuple[int, int]:
     return asked.whole("from"), asked.whole("to")
 
 
-def read_comparison(asked: CommandFields) -> tuple[str, int, int]:
+def read_comparison(asked: CommandFields) -> tuple[list[str], int, int]:
     """Return which roads a command compares, and the steps."""
-    of = asked.require("of")
-    if type(of) is not str or of not in ("preview", "mine"):
-        raise not_a_command('`of` must be "preview" or "mine"')
+    of = asked.texts("of", MOST_SIDES, LONGEST_NOTE)
+    if len({*of}) < max(2, len(of)):
+        raise not_a_command(f"`of` must name 2 to {MOST_SIDES} different roads")
     return (of, *read_steps(asked))
 
 
@@ -212,6 +223,14 @@ def share(asked: CommandFields) -> Handler:
     return lambda call: call.lab.share(call.index, call.times, stamps=stamps, title=title)
 
 
+def variant(asked: CommandFields) -> Handler:
+    """Read the name under which the road is kept, or the name of the variant that is removed."""
+    name, is_dropped = asked.text("name", LONGEST_NAME), asked.flag("drop")
+    if not fold_look_alikes(name):
+        raise Refused("NoName", "give a name of 1 to 64 characters, with one that can be seen")
+    return lambda call: call.lab.name_variant(call.index, call.times, name, not is_dropped)
+
+
 async def leave(call: Call) -> Reply:
     await call.lab.seating.release_seat(call.index)
     return {}
@@ -247,12 +266,24 @@ def preview(asked: CommandFields) -> Handler:
     return lambda call: call.questions.preview(call.index, what, stamps)
 
 
+def figures(asked: CommandFields) -> Handler:
+    of, first, last = read_comparison(asked)
+    return lambda call: call.questions.figures(call.index, call.names(of), first, last)
+
+
 def days(asked: CommandFields) -> Handler:
     """Read a comparison over many days. If `of` is null, the command stops the one that is running."""
     if asked.is_null("of"):
-        return lambda call: call.questions.days(call.index, call.replica, None, 0, 0)
+        return lambda call: call.questions.stop_days(call.index)
     of, first, last = read_comparison(asked)
-    return lambda call: call.questions.days(call.index, call.replica, of, first, last)
+    return lambda call: call.questions.days(call.index, call.names(of), first, last)
+
+
+def list_lines(call: Call, version: int) -> Awaitable[Reply]:
+    """Return the list of the changes of a road."""
+    if call.at in KEPT_ROADS:
+        return call.questions.layers(call.index, call.replica, version)
+    return call.questions.list_fixed(call.questions.roads.find_fixed(call.index, call.at), call.index, version)
 
 
 # Files
@@ -264,10 +295,11 @@ def transcript(asked: CommandFields) -> Handler:
 
 
 def report(asked: CommandFields) -> Handler:
-    """Read a comparison, the title of its report, and sentences about the change."""
+    """Read a comparison, the title of its report, sentences about the change, whether its diagrams show the approach, and its days."""
     of, first, last = read_comparison(asked)
-    title, works = asked.text("title", LONGEST_NOTE), asked.texts("works", MOST_SENTENCES, LONGEST_NOTE)
-    return lambda call: call.questions.report(call.index, call.replica, of, first, last, title, works)
+    title, works, approach = asked.text("title", LONGEST_NOTE), asked.texts("works", MOST_SENTENCES, LONGEST_NOTE), asked.flag("approach")
+    number = asked.whole("days") if asked.has("days") else None
+    return lambda call: call.questions.report(call.index, call.names(of), first, last, title, works, approach, number)
 
 
 def table_of_counts(asked: CommandFields) -> Handler:
@@ -291,6 +323,7 @@ VERBS: dict[str, Verb] = {
     "send": Verb(OWN, share, changes=True),
     "take": Verb(OWN, reader_of_one_part(
         lambda asked: require_shared(asked, "message"), lambda call, _: call.lab.take(call.index, call.times)), changes=True),
+    "variant": Verb(OWN, variant, changes=True),
     "leave": Verb(OWN, no_fields(leave), changes=True),
     # Queries of roads
     "advance": Verb(ROADS, reader_of_one_part(lambda asked: asked.whole("to"), lambda call, to: call.questions.advance(call.road, to))),
@@ -303,18 +336,16 @@ VERBS: dict[str, Verb] = {
     "counts": Verb(ROADS, counts),
     "capacity": Verb(KEPT_ROADS, capacity),
     # Lists and previews
-    "layers": Verb(KEPT_ROADS, reader_of_one_part(lambda asked: asked.version("from"), lambda call, version: call.questions.layers(
-        call.index, call.replica, version)), SHARED_ROAD),
+    "layers": Verb(LISTED_ROADS, reader_of_one_part(lambda asked: asked.version("from"), list_lines), SHARED_ROAD),
     "operations": Verb(KEPT_ROADS, reader_of_one_part(
         lambda asked: asked.whole("from", default=0), lambda call, first: call.questions.operations(call.index, call.replica, first)),
         SHARED_ROAD),
     "preview": Verb(OWN, preview),  # (`Questions.preview` waits for the disk itself, before it keeps the two roads)
-    "figures": Verb(OWN, reader_of_one_part(
-        read_comparison, lambda call, asked: call.questions.figures(call.index, call.replica, *asked)), OWN),
+    "figures": Verb(OWN, figures, OWN),
     "days": Verb(OWN, days, OWN),
     # Files
     "transcript": Verb(KEPT_ROADS, transcript, SHARED_ROAD),
     "report": Verb(OWN, report, OWN),
-    "script": Verb(KEPT_ROADS, no_fields(lambda call: call.questions.script(call.index, call.replica)), SHARED_ROAD),
+    "script": Verb(LISTED_ROADS, no_fields(lambda call: call.questions.script(call.index, call.at)), SHARED_ROAD),
     "csv": Verb(KEPT_ROADS, table_of_counts, SHARED_ROAD),
 }
