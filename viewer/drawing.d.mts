@@ -12,7 +12,7 @@ export interface View { cell: number; step: number; scale: number; tall: number 
 
 export interface Part { cells: [from: number, to: number]; steps: [from: number, to: number] }
 
-export interface Unit { given: boolean; clock: boolean; begin: number | null; place: number; time: number; flow: number; speed: number; density: number; textOf?: (step: number) => string }
+export interface Unit { given: boolean; clock: boolean; begin: number | null; place: number; time: number; flow: number; speed: number; density: number; textOf?: (step: number) => string; origin?: number }
 
 export interface Painted { tiles: Tiles; name: string; greatest: number }
 
@@ -56,7 +56,7 @@ export declare class Tiles {
   clear(): void;
 }
 
-export declare function boxSums(picture: Picture, from: number, to: number, wide: number):
+export declare function boxSums(picture: Picture, from: number, to: number, wide: number, first?: number):
   { cars: Uint32Array; speeds: Uint32Array; closed: Uint32Array; rows: number };
 export declare function paintCells(context: CanvasRenderingContext2D, view: View, picture: Picture, part: Part, how: Painted): void;
 export declare function paintMeans(context: CanvasRenderingContext2D, view: View, picture: Picture, part: Part, how: Painted): void;

@@ -129,7 +129,7 @@ const PLAIN = {given: false, clock: false, place: 1, time: 1, flow: 1, speed: 1,
  * the seconds of a step. With `clock`, times are written as h:mm:ss, or as times of day if `begin`
  * (the time of step 0 in seconds after midnight) is known. Without metres and seconds, the units
  * are cells and steps. A page may add a function `textOf`, which returns the text of the time of a
- * step. */
+ * step, and `origin`, the cell at km 0. */
 function unitOf(metres, seconds, clock = false, begin = null) {
   if (!(metres > 0 && seconds > 0)) return PLAIN;
   return {given: true, clock, begin, place: metres / 1000, time: seconds / 60, flow: 3600 / seconds,
@@ -174,7 +174,7 @@ function ticks(from, to, least, unit) {
 
 function multiples(from, to, apart) {
   const found = [];
-  for (let at = Math.ceil(from / apart); at * apart < to; at++) found.push(at * apart);
+  for (let at = Math.ceil(from / apart - 1e-9); at * apart < to; at++) found.push(at * apart);
   return found;
 }
 
@@ -382,10 +382,11 @@ function paintMarks(context, view, picture, other, part, {tiles, name}) {
 
 // 6. Boxes: sums over some cells of some rows.
 
-/** Return the cars, the sums of their speeds and the closed cells of the boxes `wide` cells wide
- * in the steps `from` to `to - 1`, and the number of rows in these steps. */
-function boxSums(picture, from, to, wide) {
-  const across = Math.ceil(picture.length / wide);
+/** Return the cars, the sums of their speeds and the closed cells of the boxes `wide` cells wide,
+ * from the cell `first` on, in the steps `from` to `to - 1`; and the number of rows in these
+ * steps. */
+function boxSums(picture, from, to, wide, first = 0) {
+  const across = Math.ceil((picture.length - first) / wide);
   const [cars, speeds, closed] = [0, 0, 0].map(() => new Uint32Array(across));
   const every = picture.every;
   const end = Math.min(to, endOf(picture));
@@ -394,8 +395,8 @@ function boxSums(picture, from, to, wide) {
     const row = rowAt(picture, step);
     if (!row) continue;
     rows++;
-    for (let box = 0, cell = 0; box < across; box++) {
-      const last = Math.min(picture.length, (box + 1) * wide);
+    for (let box = 0, cell = first; box < across; box++) {
+      const last = Math.min(picture.length, first + (box + 1) * wide);
       let [carsHere, speedsHere] = [0, 0];
       for (; cell < last; cell++) {
         const code = row.charCodeAt(cell);
@@ -540,15 +541,16 @@ function drawDetails(context, view, picture, other, part, greatest) {
 /** Draw the axes: places above the plot, and times at its left. */
 function drawAxes(context, view, {cells, steps}, unit, end = Infinity) {
   const inside = unit.given ? 0 : 0.5;   // a number names a cell (its middle) or a place
+  const origin = unit.origin ?? 0;
   const top = MARGIN.top - PLAN_HIGH;
   pen(context, "center", "bottom");
-  const [left, right] = cells.map((cell) => cell * unit.place);
+  const [left, right] = cells.map((cell) => (cell - origin) * unit.place);
   const least = 60 / view.scale * unit.place;
-  const last = end * unit.place;
+  const last = (end - origin) * unit.place;
   const isEnd = last <= right * 1.000001;
   const places = ticks(left, right, least, unit).filter((at) => !isEnd || last - at > 0.7 * least);
   for (const at of isEnd ? [...places, last] : places) {
-    const middle = leftOf(view, at / unit.place + inside);
+    const middle = leftOf(view, at / unit.place + origin + inside);
     pen(context, at === last ? "right" : "center", "bottom");
     context.fillText(long(at), middle, top - 6);
     context.fillRect(Math.round(middle), top - 5, 1, 5);

@@ -4,7 +4,7 @@ import {MOST_OBJECTS, isTooLate} from "./geometry.mjs";
 import * as messages from "./messages.mjs";
 import {placesText, shapeText, takenZonesText, valueText} from "./shapetexts.mjs";
 import {need, layersOf, store} from "./store.mjs";
-import {LAST_STEP, chanceText, kmText, limitText} from "./units.mjs";
+import {LAST_STEP, chanceText, lengthText, limitText} from "./units.mjs";
 
 /** @typedef {import("./types.mjs").Area} Area */
 /** @typedef {import("./types.mjs").Change} Change */
@@ -68,6 +68,6 @@ export function areaOfShape(shape, old = null, coversNoZone = false) {
 function faultOf(shape) {
   const {kind, first, last, from, value} = shape;
   if (isTooLate(shape)) return messages.tooLate(store.day.timeText(LAST_STEP));
-  if (last - first >= MOST_OBJECTS) return messages.tooLong(kmText(MOST_OBJECTS));
+  if (last - first >= MOST_OBJECTS) return messages.tooLong(lengthText(MOST_OBJECTS));
   return Number.isNaN(value) && !isUnmeasured(shape) ? faultOfValue(kind, first, from) : "";
 }

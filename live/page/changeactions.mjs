@@ -21,6 +21,7 @@ import {periodShown} from "./view.mjs";
 /** @typedef {import("./types.mjs").ListNews} ListNews */
 /** @typedef {import("./types.mjs").Operation} Operation */
 /** @typedef {import("./types.mjs").Pending} Pending */
+/** @typedef {import("./types.mjs").RoadName} RoadName */
 /** @typedef {import("./types.mjs").Stamp} Stamp */
 /** @typedef {import("./store.mjs").Press} Press */
 
@@ -239,7 +240,7 @@ async function takeLayers(whose, said) {
 
 /** Ask for the changes of a road that are new to the page. Calls at the same time share a request.
  * Return a promise that is resolved when the list is up to date.
- * @param {"mine" | "shared"} whose
+ * @param {RoadName} whose
  */
 export function refreshChanges(whose) {
   const there = store.refreshes.get(whose);
@@ -254,7 +255,7 @@ export function refreshChanges(whose) {
 }
 
 /** Ask for the new changes of a road, and again as long as another call has asked for them meanwhile.
- * @param {"mine" | "shared"} whose
+ * @param {RoadName} whose
  * @param {{again: boolean}} refresh
  */
 async function refreshUntilDone(whose, refresh) {
@@ -272,11 +273,10 @@ async function refreshUntilDone(whose, refresh) {
 
 /** Ask for the new changes of a road, piece by piece, or for all if the server has restarted its
  * list. Ignore a piece if another answer has brought a newer version. Return whether all arrived.
- * @param {"mine" | "shared"} whose
+ * @param {RoadName} whose
  */
 async function askLayers(whose) {
-  const layers = layersOf(whose);
-  const at = whose === "mine" ? need("me").at : "shared";
+  const [layers, {at}] = [layersOf(whose), roadOf(whose)];
   for (let more = true; more;) {
     const from = layers.next;
     const said = await ask({layers: {at, from}});
@@ -412,7 +412,7 @@ async function askPreviewFigures() {
   const [from, to] = periodShown();
   if (!preview || !outcome || to <= from) return;
   const isWanted = () => store.outcome === outcome;
-  const said = await ask({figures: {at: need("me").at, of: "preview", from, to}},
+  const said = await ask({figures: {at: need("me").at, of: PREVIEWED, from, to}},
     {quiet: ["Busy"], isWanted});
   if (!said || !isWanted()) return;
   if ("refused" in said && said.refused === "Busy") {

@@ -122,7 +122,8 @@ function showFileDemand() {
   const version = JSON.stringify(lines);
   if (!lines.length || $("fileDemandTable").dataset.version === version) return;
   $("fileDemandTable").dataset.version = version;
-  const heads = need("plan").inlets.map(([cell]) => headCell(`at ${kmText(cell)} km`));
+  const plan = need("plan");
+  const heads = plan.inlets.map(([cell]) => headCell(`at ${kmText(plan, cell)} km`));
   $("fileDemandTable").replaceChildren(
     element("caption", "Cars per hour that want to enter"),
     element("thead", "", {}, row(headCell("from"), ...heads)),
@@ -133,7 +134,7 @@ function showFileDemand() {
 
 /** Show how to begin, until there are changes, and that the road is empty, while it is. */
 function showFirstSteps() {
-  $("emptyHint").hidden = now() > 0;
+  $("emptyHint").hidden = now() > store.day.lead;
   $("hint").hidden = store.changes.length > 0 || store.pending.size > 0;
 }
 

@@ -223,6 +223,15 @@ function isListed(change, seat) {
   return privateOf(change).length > 0 || lostOf(change, seat) !== null;
 }
 
+const ROAD_FILE = "road file";  // who made the changes that come from the road's file
+
+/** Ask whether a change is the demand or the slow-to-start chance of the road's file, which nobody has
+ * changed.
+ * @param {Change} change
+ */
+export const isPlanned = ({planned, shape, who, when, operations}) => planned || (shape?.kind === "start"
+  && shape.from === 0 && shape.to === null && who === ROAD_FILE && !when && operations.length === 1);
+
 /** Return changes in the order of the lists: the newest first, which people look for most.
  * @param {Change[]} changes
  */

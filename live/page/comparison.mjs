@@ -1,23 +1,32 @@
-// Actions: ask for a comparison of two roads over many days, and stop it.
+// Actions: ask for a comparison of roads over many days, and stop it.
 
 import {ask} from "./questions.mjs";
 import * as messages from "./messages.mjs";
-import {notify, need, layersOf, store, tell} from "./store.mjs";
+import {figureRoads, notify, need, layersOf, roadOf, store, tell} from "./store.mjs";
 import {periodShown} from "./view.mjs";
 
 /** Return how many days the server simulates. */
 export const daysAsked = () => store.limits.days;
 
-/** Return a key that changes whenever one of the two roads does. */
-const keyOfRoads = () => [layersOf("mine").next, layersOf("shared").next].join();
+/** @typedef {import("./types.mjs").RoadName} RoadName */
 
-/** Return which roads are compared: those of the preview if there is one, otherwise mine and shared.
- * @returns {"preview" | "mine"}
+/** Return a key that changes whenever one of these roads does. Variants do not change.
+ * @param {RoadName[]} roads
  */
-export const comparedNow = () => (store.preview ? "preview" : "mine");
+const keyOfRoads = (roads) => [roads.includes("mine") || store.preview ? layersOf("mine").next : "",
+  roads.includes("shared") || store.preview ? layersOf("shared").next : ""].join();
+
+/** Return which roads are compared: those of the preview if there is one, otherwise those whose figures
+ * are shown.
+ * @returns {RoadName[]}
+ */
+export const comparedNow = () => (store.preview ? ["before", "after"] : figureRoads());
+
+/** Return the names of the roads that are compared, as the server knows them. */
+export const comparedAt = () => (store.preview ? ["before", "after"] : figureRoads().map((whose) => roadOf(whose).at));
 
 /** Return the comparison over many days of the roads that are compared now; null before it was made. */
-export const daysShown = () => (store.days?.of === comparedNow() ? store.days : null);
+export const daysShown = () => (store.days?.of.join() === comparedNow().join() ? store.days : null);
 
 /** Ask for a comparison over many days. */
 export async function askDays() {
@@ -27,10 +36,10 @@ export async function askDays() {
     return;
   }
   /** @type {import("./types.mjs").Days} */
-  const days = {of: comparedNow(), key: keyOfRoads(), done: 0, said: null};
+  const days = {of: comparedNow(), key: keyOfRoads(comparedNow()), done: 0, said: null};
   store.days = days;
   notify("days");
-  const said = await ask({days: {at: need("me").at, of: days.of, from, to}},
+  const said = await ask({days: {at: need("me").at, of: comparedAt(), from, to}},
     {quiet: ["Stopped"], isWanted: () => store.days === days});
   if (store.days !== days) return;
   if (said && !("refused" in said)) days.said = said;
@@ -61,7 +70,7 @@ export function dropDays() {
 
 /** Forget the comparison if one of its roads has changed since. */
 export function dropOldDays() {
-  if (!store.days || store.days.key === keyOfRoads()) return;
+  if (!store.days || store.days.key === keyOfRoads(store.days.of)) return;
   const {said} = store.days;
   dropDays();
   if (!said) tell(messages.daysStopped(daysAsked()));

@@ -1,8 +1,8 @@
-// View: is a difference due to the change, or to chance? The two roads are compared over many days:
+// View: is a difference due to the change, or to chance? The roads are compared over many days:
 // first their progress, then means with intervals, in the place of the figures of one day.
 
 import {assign} from "./assign.mjs";
-import {askDays, daysAsked, daysShown, dropDays, dropOldDays, stopDays} from "./comparison.mjs";
+import {askDays, comparedNow, daysAsked, daysShown, dropDays, dropOldDays, stopDays} from "./comparison.mjs";
 import {$, button, childrenOf, element, findElement} from "./elements.mjs";
 import {figureTable, wordsOf} from "./figuretable.mjs";
 import {store, watch} from "./store.mjs";
@@ -13,7 +13,7 @@ const overText = () => `Over ${daysAsked()} days`;
 /** @param {DaysFigures} said */
 const daysText = ({days, stopped}) =>
   (stopped ? `Over ${days} of ${daysAsked()} days, stopped` : overText());
-const READ_MEANS = "each day has its own drivers, the same on both roads. \u00b1 is half the width "
+const READ_MEANS = "each day has its own drivers, the same on all roads. \u00b1 is half the width "
   + "of the 95 % interval. If the interval of a difference contains 0, the difference may be chance.";
 /** @param {DaysFigures} said */
 const readText = ({days, figures}) => [
@@ -67,7 +67,7 @@ function showDays() {
   $(one).hidden = Boolean(said);
   $(table).replaceChildren(...(said ? [
     element("div", "", {className: "scrolled"},
-      figureTable("days", isPreview ? "preview" : "mine", said.figures, captionText(said))),
+      figureTable("days", comparedNow(), said.figures, captionText(said))),
     element("p", readText(said), {className: "hint"})] : []));
 }
 

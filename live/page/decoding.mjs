@@ -160,19 +160,19 @@ const decodeEntries = (wire) => Object.entries(wire)
  */
 const decodeMean = ([mean, half]) => ({mean, half});
 
-/** Return a figure of two roads.
+/** Return a figure of roads.
  * @param {WireFigureRow} wire
  * @returns {FigureRow}
  */
-const decodeRow = ({before, after, difference, ...wire}) => ({...wire, before: decodeMean(before),
-  after: decodeMean(after), difference: decodeMean(difference)});
+const decodeRow = ({values, differences, ...wire}) => ({...wire, values: values.map(decodeMean),
+  differences: differences.map(decodeMean)});
 
-/** Return the figures of two roads.
+/** Return the figures of roads.
  * @param {WireFigures} wire
  * @returns {Figures}
  */
-export const decodeFigures = ({figures, entries: {before, after}, ...wire}) => ({...wire,
-  figures: figures.map(decodeRow), entries: {before: decodeEntries(before), after: decodeEntries(after)}});
+export const decodeFigures = ({figures, entries, ...wire}) => ({...wire,
+  figures: figures.map(decodeRow), entries: entries.map(decodeEntries)});
 
 /** Return the figures of many days.
  * @param {WireAnswers["days"]} wire
@@ -200,7 +200,7 @@ const DECODERS = {
   preview: ({layers = []}) => ({layers: layers.map(decodeChange)}), figures: decodeFigures,
   days: decodeDays, send: asSent, advance: asSent, diagram: asSent, counts: asSent, sums: asSent,
   admission: asSent, capacity: asSent, script: asSent, report: asSent, transcript: asSent, csv: asSent,
-  clock: asSent,
+  clock: asSent, variant: asSent,
 };
 
 /** Return the answer to a command, with named fields.

@@ -14,10 +14,11 @@ import {isInForce} from "./layers.mjs";
 import {moveBy, moveTo, setFollowing, showRoad, zoomBy} from "./navigation.mjs";
 import * as messages from "./messages.mjs";
 import {cornersOf} from "./picture.mjs";
+import {roadText} from "./roadnames.mjs";
 import {isOwn, layersOf, layersShown, need, roadOf, store, tell, watch, whoseShown}
   from "./store.mjs";
 import {KMH_A_CELL, durationText, kmOf, limitText, metresText, roundedKm} from "./units.mjs";
-import {everyShown, strideNow, viewNow} from "./view.mjs";
+import {acrossNow, everyShown, strideNow, viewNow} from "./view.mjs";
 
 /** @typedef {import("./geometry.mjs").Edge} Edge */
 /** @typedef {import("./store.mjs").Drag} Drag */
@@ -28,7 +29,6 @@ import {everyShown, strideNow, viewNow} from "./view.mjs";
 /** @typedef {import("./types.mjs").Place} Place */
 /** @typedef {import("./types.mjs").Shape} Shape */
 
-const ROAD_NAMES = {mine: "mine", shared: "shared", before: "before", after: "after"};
 const AT_EDGE = 6;              // pixels: a press this near to an edge drags the edge
 
 // Drags.
@@ -55,7 +55,7 @@ function areaBetween(kind, one, other, how) {
  */
 const placeOf = ({offsetX, offsetY}) => {
   const view = viewNow();
-  return [cellAt(view, offsetX), Math.max(0, stepAt(view, offsetY))];
+  return [cellAt(view, acrossNow(offsetX)), Math.max(0, stepAt(view, offsetY))];
 };
 
 /** Ask whether a change of the own road is the same on the road that is shown, and in force there, on
@@ -103,7 +103,7 @@ function onDown(event) {
   if (event.button) return;
   $("diagram").setPointerCapture(event.pointerId);
   const {offsetX: x, offsetY: y} = event;
-  beginDrag({at: placeOf(event), x, y, edge: edgeAt(x, y)});
+  beginDrag({at: placeOf(event), x, y, edge: edgeAt(acrossNow(x), y)});
 }
 
 /** @param {PointerEvent} event */
@@ -175,7 +175,7 @@ const RESIZES = {top: "ns-resize", bottom: "ns-resize", left: "ew-resize", right
  * @param {PointerEvent} event
  */
 function showPointer({offsetX, offsetY}) {
-  const edge = edgeAt(offsetX, offsetY)?.edge;
+  const edge = edgeAt(acrossNow(offsetX), offsetY)?.edge;
   $("diagram").style.cursor = edge ? RESIZES[edge] : cursorOfTool();
 }
 
@@ -219,15 +219,16 @@ function showReadout(isAnnounced = false) {
  * @param {Place} place
  */
 function textAt([cell, step]) {
-  const {length, zone} = need("plan");
+  const plan = need("plan");
+  const {length, zone} = plan;
   const [at, moment] = [Math.max(0, Math.min(length - 1, Math.floor(cell))), Math.round(step)];
   const roads = whoseShown();
   const texts = roads.map((whose) =>
     characterText(rowAt(roadOf(whose).level(everyShown()), moment)?.[at]));
   const limit = layersShown().valueAt("limit", Math.floor(at / zone), moment);
-  const said = texts.length === 2
-    ? roads.map((whose, which) => `${ROAD_NAMES[whose]}: ${texts[which]}`).join("; ") : texts[0];
-  const place = `${roundedKm(kmOf(at), 2).toFixed(2)} km, ${store.day.timeText(moment)}`;
+  const said = texts.length > 1
+    ? roads.map((whose, which) => `${roadText(whose)}: ${texts[which]}`).join("; ") : texts[0];
+  const place = `${roundedKm(kmOf(plan, at), 2).toFixed(2)} km, ${store.day.timeText(moment)}`;
   return `${place}: ${said}; limit ${limitText(limit ?? 0)}`;
 }
 

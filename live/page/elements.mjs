@@ -11,20 +11,20 @@ import {assign} from "./assign.mjs";
  *            | "previewDays", HTMLSpanElement>
  *   & Record<"hour" | "ahead" | "back" | "savePicture" | "saveTranscript" | "saveScript"
  *            | "saveFigures" | "saveTravel" | "saveReport" | "saveCounts" | "saveChanges" | "undo" | "redo" | "apply"
- *            | "changeSeat" | "dropChange" | "closer" | "farther" | "wholeRoad" | "shareAll", HTMLButtonElement>
- *   & Record<"follow" | "name" | "demand" | "slow" | "start" | "capacity" | "kmFrom" | "kmTo" | "timeFrom"
+ *            | "changeSeat" | "dropChange" | "closer" | "farther" | "wholeRoad" | "withApproach" | "shareAll", HTMLButtonElement>
+ *   & Record<"follow" | "name" | "variantName" | "demand" | "slow" | "start" | "capacity" | "kmFrom" | "kmTo" | "timeFrom"
  *            | "timeTo" | "letters", HTMLInputElement>
- *   & Record<"save" | "asTable" | "sites" | "past" | "series" | "fileDemand", HTMLDetailsElement>
+ *   & Record<"save" | "asTable" | "roadsPart" | "sites" | "past" | "series" | "fileDemand", HTMLDetailsElement>
  *   & Record<"hello", HTMLDialogElement>
- *   & Record<"helloForm" | "exact", HTMLFormElement>
+ *   & Record<"helloForm" | "exact" | "variantForm", HTMLFormElement>
  *   & Record<"previewTitle", HTMLHeadingElement>
  *   & Record<"seats" | "over" | "oneDay" | "travelPart" | "previewBody" | "previewCovers" | "previewOver"
  *            | "previewFigures", HTMLDivElement>
- *   & Record<"seatList" | "stays" | "legend" | "warnings" | "previewList" | "seriesLegend", HTMLUListElement>
+ *   & Record<"seatList" | "stays" | "legend" | "warnings" | "previewList" | "seriesLegend" | "roadList", HTMLUListElement>
  *   & Record<"tools" | "whose", HTMLFieldSetElement>
  *   & Record<"limit" | "worksLimit" | "inlet" | "site" | "watch" | "span" | "paint" | "seriesSite" | "seriesEnd",
             HTMLSelectElement>
- *   & Record<"kmFromLabel" | "kmToLabel", HTMLLabelElement>
+ *   & Record<"kmFromLabel" | "kmToLabel" | "besideChoice", HTMLLabelElement>
  *   & Record<"diagram" | "flowChart" | "speedChart" | "travelChart", HTMLCanvasElement>
  *   & Record<"speeds" | "figures" | "fileDemandTable", HTMLTableElement>
  *   & Record<"own" | "held" | "siteList" | "history", HTMLOListElement>} PageElements

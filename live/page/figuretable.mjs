@@ -3,10 +3,10 @@
 
 import {element, headCell, row} from "./elements.mjs";
 import {changeText, halfText, meanText, sureText} from "./estimates.mjs";
-import {ORDER} from "./tables.mjs";
+import {changeTexts, orderOf, roadText} from "./roadnames.mjs";
 
 /** @typedef {import("./types.mjs").FigureRow} FigureRow */
-/** @typedef {import("./tables.mjs").Comparison} Comparison */
+/** @typedef {import("./types.mjs").RoadName} RoadName */
 /** @typedef {[value: string, interval: string]} Texts */
 
 const NO_VALUE = "\u2013";
@@ -63,29 +63,32 @@ function groupCell([first, ...others], textsOf, bound = "") {
     ...small(interval), ...small(below), ...small(interval && travel, "seconds"), ...small(bound));
 }
 
-/** Make the table of some figures of two roads, under its caption if there is one. The change has no
- * text below it.
+/** Make the table of some figures of roads, under its caption if there is one. A change has no text
+ * below it.
  * @param {View} view
- * @param {Comparison} of
+ * @param {RoadName[]} roads
  * @param {FigureRow[]} rows
  * @param {string} [caption]
  * @param {string} [unknown]     the text of a value that is not known
  */
-export function figureTable(view, of, rows, caption = "", unknown = NO_VALUE) {
-  /** @type {(side: "before" | "after") => (one: FigureRow) => Texts} */
-  const sideOf = (side) => ({figure: {digits}, ...one}) => {
-    const isOfChange = one.before.mean === null && one.after.mean === null && one.difference.mean !== null;
-    return [meanText(one[side], digits) || (isOfChange ? "" : unknown), halfText(one[side], digits)];
+export function figureTable(view, roads, rows, caption = "", unknown = NO_VALUE) {
+  /** @type {(road: number) => (one: FigureRow) => Texts} */
+  const valueOf = (road) => ({figure: {digits}, values, differences}) => {
+    const isOfChange = values.every(({mean}) => mean === null) && differences.some(({mean}) => mean !== null);
+    return [meanText(values[road], digits) || (isOfChange ? "" : unknown), halfText(values[road], digits)];
   };
-  /** @type {(one: FigureRow) => Texts} */
-  const change = ({figure: {digits}, difference}) =>
-    [changeText(difference, digits) || unknown, sureText(difference, digits)];
-  const heads = [...ORDER[of].map(([, head]) => head), of === "mine" ? "mine \u2212\u00a0shared" : "change"];
+  /** @type {(place: number) => (one: FigureRow) => Texts} */
+  const changeOf = (place) => ({figure: {digits}, differences}) =>
+    [changeText(differences[place], digits) || unknown, sureText(differences[place], digits)];
+  const order = orderOf(roads);
+  const changes = roads[1] === "after" ? ["change"] : changeTexts(roads, "\u2212").map((text) => text.replace("\u2212 ", "\u2212\u00a0"));
+  const heads = [...order.map((road) => roadText(roads[road])), ...changes];
   const isBeside = (/** @type {FigureRow} */ one, /** @type {number} */ place) => !place || one.figure.of[0] !== null;
-  return element("table", "", {className: "figures"}, ...(caption ? [element("caption", caption)] : []),
+  return element("table", "", {className: roads.length > 2 ? "figures several" : "figures"}, ...(caption ? [element("caption", caption)] : []),
     element("thead", "", {}, row(element("td"), ...heads.map((head) => headCell(head)))),
     element("tbody", "", {}, ...groupRows(view, rows).map((group) => row(headCell(group[0].figure.title, "row"),
-      ...ORDER[of].map(([side]) => groupCell(group, sideOf(side))), groupCell(group.filter(isBeside), change, group[0].bound)))));
+      ...order.map((road) => groupCell(group, valueOf(road))),
+      ...changes.map((_, place) => groupCell(group.filter(isBeside), changeOf(place), group[0].bounds[place]))))));
 }
 
 /** Return the sentences that some figures need, each once.

@@ -34,7 +34,7 @@ function showPlan() {
   $("worksLimit").append(...limits.slice(1).map((limit) => new Option(limitText(limit), String(limit))));
   /** @type {(what: string, cell: number, index: number) => HTMLOptionElement} */
   const option = (what, cell, index) =>
-    new Option(`the ${what} at ${kmText(cell)} km`, String(index));
+    new Option(`the ${what} at ${kmText(plan, cell)} km`, String(index));
   $("inlet").append(...plan.inlets.map(([cell], index) => option("inlet", cell, index)));
   $("site").append(...plan.detectors.map((cell, index) => option("detector", cell, index)));
   document.querySelector("[value=watch]")?.toggleAttribute("disabled", !plan.detectors.length);

@@ -5,8 +5,8 @@ import {faultOfValue} from "./area.mjs";
 import {OF_ONE, OF_ZONES, cellsOf, objectsNearest} from "./geometry.mjs";
 import * as messages from "./messages.mjs";
 import {layersOf, need, now, store} from "./store.mjs";
-import {ALWAYS, LAST_STEP, cellOfKm, chanceOfDemand, demandOfChance, kmOf, kmText, roundedKm, whole}
-  from "./units.mjs";
+import {ALWAYS, LAST_STEP, cellOfKm, chanceOfDemand, demandOfChance, kmOf, kmText, rangeText, roundedKm,
+        whole} from "./units.mjs";
 
 /** @typedef {import("./store.mjs").FormValues} FormValues */
 /** @typedef {import("./types.mjs").Kind} Kind */
@@ -65,7 +65,7 @@ export function demandText() {
  * @param {string} text
  */
 const faultOfTime = (text) => (store.day.isSkipped(text) ? messages.skippedTime(text.trim())
-  : messages.notATime(text.trim(), store.day.begin === null ? null : store.day.timeText(0)));
+  : messages.notATime(text.trim(), store.day.begin === null ? null : store.day.timeText(store.day.lead)));
 
 /** Return the shape that is typed in the form, or a sentence that says what is wrong.
  * @returns {Shape | string}
@@ -92,30 +92,31 @@ function readRange(kind) {
   const {form} = store;
   if (kind === "inflow") return [Number(form.inlet), Number(form.inlet)];
   if (kind === "watch") return [Number(form.site), Number(form.site)];
-  const [from, to] = readPlaces().map(cellOfKm);
-  const {length} = need("plan");
-  if (!(from >= 0 && from < length && to <= length && from <= to)) {
-    return messages.placesOutOfRange(kmText(length));
+  const plan = need("plan");
+  const [from, to] = readPlaces().map((km) => cellOfKm(plan, km));
+  if (!(from >= 0 && from < plan.length && to <= plan.length && from <= to)) {
+    return messages.placesOutOfRange(kmText(plan, 0), kmText(plan, plan.length));
   }
-  return objectsNearest(need("plan"), kind, [from, to]);
+  return objectsNearest(plan, kind, [from, to]);
 }
 
 /** Return the two typed places, in km; NaN for one that is not a number. */
 const readPlaces = () =>
-  [store.form.kmFrom, store.form.kmTo].map((text) => numberOf(text.replace(",", ".")));
+  [store.form.kmFrom, store.form.kmTo].map((text) => numberOf(text.replace(",", ".").replace("\u2212", "-")));
 
 /** Return a sentence on the stretch that is taken, if it is not the typed one; otherwise "".
  * @param {Shape} shape
  */
 export function takenText({kind, first, last}) {
   if (OF_ONE.includes(kind)) return "";
-  const cells = cellsOf(need("plan"), kind, first, last);
-  const taken = cells.map(kmText);
+  const plan = need("plan");
+  const cells = cellsOf(plan, kind, first, last);
+  const [begin, end] = cells.map((cell) => kmText(plan, cell));
   const typed = readPlaces().map((km) => String(roundedKm(km)));
-  if (taken.join() === typed.join()) return "";
-  const isRounded = cells.some((cell, index) => Math.abs(kmOf(cell) - Number(taken[index])) > 1e-9);
+  if ([begin, end].join() === typed.join()) return "";
+  const isRounded = [begin, end].some((text, index) => Math.abs(kmOf(plan, cells[index]) - Number(text)) > 1e-9);
   return ` Rounded to whole ${OF_ZONES.includes(kind) ? "zones" : "cells of 7.5 m"}: `
-    + `${isRounded ? "about " : ""}${taken.join("\u2013")} km.`;
+    + `${isRounded ? "about " : ""}${rangeText(begin, end)} km.`;
 }
 
 /** Return the texts of the form's fields for a shape.
@@ -124,8 +125,8 @@ export function takenText({kind, first, last}) {
  */
 export function fieldsOf(shape) {
   const {kind, first, last, from, to} = shape;
-  const [start, end] = cellsOf(need("plan"), kind, first, last);
-  return {kmFrom: kmText(start), kmTo: kmText(end), timeFrom: store.day.timeText(from),
+  const [start, end] = cellsOf(need("plan"), kind, first, last).map((cell) => kmText(need("plan"), cell));
+  return {kmFrom: start, kmTo: end, timeFrom: store.day.timeText(from),
           timeTo: to === null ? "" : store.day.timeText(to), ...valuesOf(shape)};
 }
 

@@ -3,11 +3,12 @@
 import {ask} from "./questions.mjs";
 import {assign} from "./assign.mjs";
 import {keyOf} from "./stamps.mjs";
-import {BOTH, notify, need, last, roadOf, store, whoseShown} from "./store.mjs";
+import {roadText} from "./roadnames.mjs";
+import {figureRoads, notify, need, last, roadOf, store, whoseShown} from "./store.mjs";
 import {everyShown, periodShown} from "./view.mjs";
 
 /** @typedef {import("./rows.mjs").Road} Road */
-/** @typedef {import("./store.mjs").RoadName} RoadName */
+/** @typedef {import("./types.mjs").RoadName} RoadName */
 /** @typedef {import("./types.mjs").DetectorFigures} DetectorFigures */
 /** @typedef {import("./types.mjs").Span} Span */
 
@@ -17,16 +18,16 @@ const QUIET = 400;              // milliseconds without news before cars are cou
 const BUSY = 1000;              // milliseconds until a busy server is asked again
 const MINUTES_AT_ONCE = 60;     // of a question for sums
 
-/** Ask for the visible rows that are not fresh, from the top on. With `both`, then ask for those of
- * the other road, whose figures are shown too.
- * @param {boolean} [both]
+/** Ask for the visible rows that are not fresh, from the top on. With `all`, then ask for those of the
+ * other roads, whose figures are shown too.
+ * @param {boolean} [all]
  */
-export function fetchRows(both = !store.clock.rate) {
+export function fetchRows(all = !store.clock.rate) {
   if (!store.me || !store.connection?.isAdmitted) return;
   const seen = whoseShown();
   if (!fetchOf(seen)) return;
   noteRowsComplete();
-  if (both) fetchOf(BOTH.filter((whose) => !seen.includes(whose)));
+  if (all) fetchOf(figureRoads().filter((whose) => !seen.includes(whose)));
 }
 
 /** Ask for rows of these roads. Return whether none is missing.
@@ -161,7 +162,7 @@ async function askFigures(period) {
   let came = false;
   try {
     came = await askCounts(period);
-    for (const whose of BOTH) came = await askSums(whose, period) || came;
+    for (const whose of figureRoads()) came = await askSums(whose, period) || came;
   } finally {
     figures.asking = false;
   }
@@ -188,16 +189,16 @@ const isOfPeriod = (count) => !Array.isArray(count);
  */
 const stepsPerPoint = (steps) => [60, 300, 900, 3600].find((each) => steps / each <= 150) ?? 10_800;
 
-/** Return a key of the series of two roads, which differs whenever they do.
+/** Return a key of the series of roads, which differs whenever they do.
  * @param {RoadName[]} sides
  * @param {Span} period
  */
 const keyOfSeries = (sides, period) => [
-  ...sides, ...BOTH.map((whose) => roadOf(whose).version), ...period,
+  ...sides, ...figureRoads().map((whose) => roadOf(whose).version), ...period,
   ...(store.outcome && store.preview ? store.preview.stamps.map(keyOf) : [])].join();
 
-/** Ask for flow and speed by time of the two roads that are compared, unless those that are shown are
- * up to date.
+/** Ask for flow and speed by time of the roads that are compared, unless those that are shown are up to
+ * date.
  * @param {Span} [period]
  */
 export async function askSeries(period = periodShown()) {
@@ -205,7 +206,7 @@ export async function askSeries(period = periodShown()) {
   const [from, to] = period;
   if (series.asking || to <= from || !need("plan").detectors.length || !connection?.isAdmitted) return;
   /** @type {RoadName[]} */
-  const sides = outcome?.layers ? ["before", "after"] : ["shared", "mine"];
+  const sides = outcome?.layers ? ["before", "after"] : figureRoads();
   const key = keyOfSeries(sides, period);
   if (key === series.key) return;
   const roads = sides.map(roadOf);      // a preview may close while answers are awaited
@@ -217,9 +218,8 @@ export async function askSeries(period = periodShown()) {
       ask({counts: {at, from, to, each}}, {quiet: ["Busy", "NoPreview"]})));
     const flows = said.flatMap((one) => (one && "flows" in one ? [one.flows.filter(isOfSpan)] : []));
     if (flows.length < said.length) return;
-    const names = outcome?.layers ? ["before", "after"] : ["shared", "mine"];
     const isThere = series.point !== null && series.point < flows[0].length;
-    assign(series, {key, names, from, to, each, flows, point: isThere ? series.point : null});
+    assign(series, {key, names: sides.map(roadText), from, to, each, flows, point: isThere ? series.point : null});
     notify("series");
   } finally {
     series.asking = false;
@@ -266,9 +266,10 @@ function askExactSoon(period) {
 /** Return a key of a period's figures, which differs whenever a road has changed.
  * @param {Span} period
  */
-const keyOfPeriod = (period) => [...period, ...BOTH.map((whose) => roadOf(whose).version)].join();
+const keyOfPeriod = (period) =>
+  [...period, ...figureRoads().map((whose) => `${whose} ${roadOf(whose).version}`)].join();
 
-/** Ask for the counts of both roads, if they may differ from those that are shown. Return whether
+/** Ask for the counts of the roads, if they may differ from those that are shown. Return whether
  * new ones arrived.
  * @param {Span} period
  */
@@ -277,9 +278,9 @@ async function askCounts(period) {
   const {figures} = store;
   const key = keyOfPeriod(period);
   if (key === figures.key) return false;
-  for (const whose of BOTH) if (!await computeTo(roadOf(whose), to)) return false;
-  const said = await Promise.all([need("me").at, "shared"].map((at) =>
-    ask({counts: {at, from, to}}, {quiet: ["Busy"]})));
+  const roads = figureRoads().map(roadOf);      // others may be chosen while answers are awaited
+  for (const road of roads) if (!await computeTo(road, to)) return false;
+  const said = await Promise.all(roads.map(({at}) => ask({counts: {at, from, to}}, {quiet: ["Busy"]})));
   const counts = said.flatMap((one) => (one && "flows" in one ? [one.flows.filter(isOfPeriod)] : []));
   if (counts.length < said.length) return false;
   assign(figures, {key, period, counts});
@@ -297,12 +298,14 @@ async function askSums(whose, period) {
   const {version, at} = road;
   const said = await ask({sums: {at, from: wanted[0], to: wanted[1]}}, {quiet: ["Busy"]});
   if (!said || "refused" in said) return false;
-  if (road.version === version) road.minutes.put(wanted[0], said.sums);
+  if (road.version === version) {
+    road.minutes.put(wanted[0], said.sums);
+    road.approach.put(wanted[0], said.approach ?? []);
+  }
   return true;
 }
 
-/** Ask for what is counted car by car: lost demand, travel times, and the delay on mine compared with
- * shared.
+/** Ask for what is counted car by car: lost demand, travel times, and the delay.
  * @param {Span} period
  */
 async function askExact(period) {
@@ -311,7 +314,8 @@ async function askExact(period) {
   if (key === figures.exactKey || figures.counting || store.preview) return;
   const [from, to] = period;
   figures.counting = true;
-  const said = await ask({figures: {at: need("me").at, of: "mine", from, to}}, {quiet: ["Busy"]});
+  const said = await ask({figures: {at: need("me").at, of: figureRoads().map((whose) => roadOf(whose).at), from, to}},
+    {quiet: ["Busy"], isWanted: () => keyOfPeriod(period) === key});
   figures.counting = false;
   if (said && "refused" in said && said.refused === "Busy") setTimeout(refreshFigures, BUSY);
   if (!said || "refused" in said) return;

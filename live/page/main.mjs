@@ -11,9 +11,10 @@ import * as changelists from "./changelists.mjs";
 import * as picture from "./picture.mjs";
 import * as savemenu from "./savemenu.mjs";
 import * as series from "./series.mjs";
+import * as variantpanel from "./variantpanel.mjs";
 
 takeToken();
 addEventListener("hashchange", () => { takeToken(); location.reload(); });
 for (const view of [head, form, picture, diagraminput, changelists, preview, figures, series, daystable,
-                    savemenu]) view.begin();
+                    savemenu, variantpanel]) view.begin();
 connect();

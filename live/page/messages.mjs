@@ -1,6 +1,7 @@
 // All sentences in which the page says that something is wrong, refused, done or under way: what it
 // is, where, and what to do. What changes are called is in shapetexts.mjs.
 
+import {listText} from "./roadnames.mjs";
 import {plural, whole} from "./units.mjs";
 
 /** Return one of two words: the first if a count is 1.
@@ -117,9 +118,12 @@ export const notMeasured = (note) =>
 export const measuringDemands = (done, all) =>
   `The server is measuring what inlets admit, ${done + 1} of ${all}.`;
 
-/** @param {string} length   of the road, in km */
-export const placesOutOfRange = (length) =>
-  `Type two places from 0 to ${length} km, the smaller first.`;
+/**
+ * @param {string} begin     of the road, in km
+ * @param {string} end
+ */
+export const placesOutOfRange = (begin, end) =>
+  `Type two places from ${begin} to ${end} km, the smaller first.`;
 
 /** @param {string} end      of the clock */
 export const tooLate = (end) => `This is too late: the road's clock ends at ${end}.`;
@@ -165,6 +169,25 @@ export const undoBlocked = (others, note, isLast) =>
   + `${others.join(" and ") || "somebody"} ${others.length > 1 ? "have" : "has"} changed it since. ${isLast
     ? "There is nothing else of yours to undo." : "Press Undo again to undo the one before it."}`;
 
+// Variants.
+
+export const NOT_NAMED = "The variant was not changed: there is no connection. Try again once it is back.";
+export const OF_FILE = "the file's road";
+export const COMPARED_WITH = " the others are compared with it";
+
+/**
+ * @param {string} name
+ * @param {number} waiting   changes that are not confirmed yet
+ * @param {boolean} isNew    no other road had this name
+ */
+export const named = (name, waiting, isNew) => `Your road is kept as “${name}”${waiting
+  ? `, without ${plural(waiting, "change")} that ${byCount(waiting, "is", "are")} waiting` : ""}.${isNew
+  ? "" : " The road that had this name is no longer kept."}`;
+/** @param {string} name */
+export const variantRemoved = (name) => `“${name}” is no longer kept.`;
+/** @param {number} most */
+export const mostRoads = (most) => `At most ${most} roads are shown side by side. Choose one less first.`;
+
 // Sharing and taking.
 
 export const NOT_SHARED = "Nothing was shared: there is no connection. Share again once it is back.";
@@ -200,7 +223,8 @@ export const NOTHING_COMPUTED =
 export const NO_PICTURE =
   "The browser could not make a picture of the diagram. Make the window smaller, and try again.";
 export const SAVING = "Saving \u2026";
-export const MAKING_REPORT = "Making the report: both roads are simulated over five days \u2026";
+/** @param {number} days */
+export const makingReport = (days) => `Making the report: all roads are simulated over ${plural(days, "day")} \u2026`;
 export const READ_FIGURES = "Delay: of cars that both roads have.";
 export const PAUSE_FOR_FIGURES =
   "Lost demand, delay and travel times are counted car by car: pause the clock to see them.";
@@ -216,14 +240,27 @@ export const savedPicture = (name) => `Saved ${name}: the diagram as shown.`;
 /** @param {string} name */
 export const savedReport = (name) => `Saved ${name}: any browser shows it, and prints it on A4.`;
 /**
+ * @param {number} days      of a report
+ * @param {number} most      days that the page simulates
+ */
+export const daysOfReport = (days, most) => `It has ${days} days; for ${most}, press \u201cOver ${most} days\u201d first.`;
+/**
  * @param {string} name
  * @param {number} metres    of a cell
+ * @param {number} origin    the cell at km 0
  */
-export const savedTranscript = (name, metres) =>
-  `Saved ${name}: open it in the viewer, with ${metres} metres a cell and 1 second a step.`;
-/** @param {string[]} names */
-export const savedScripts = (names) =>
-  `Saved ${names.join(" and ")}: road_lab runs each, and recipes/delay compares them.`;
+export const savedTranscript = (name, metres, origin) =>
+  `Saved ${name}: open it in the viewer, with ${metres} metres a cell and 1 second a step.`
+  + (origin ? " The viewer counts km from the head of the approach." : "");
+/**
+ * @param {string[]} names
+ * @param {number} metres    of a cell
+ * @param {number} origin    the cell at km 0
+ * @param {number} begin     the step at minute 0
+ */
+export const savedScripts = (names, metres, origin, begin) =>
+  `Saved ${listText(names)}: road_lab runs each, and recipes/delay compares ${names.length > 2 ? "two of them" : "them"}.`
+  + (origin ? ` It counts from km 0 and minute 0 if a file units.json beside them has ${JSON.stringify({metres, seconds: 1, origin, begin})}.` : "");
 
 // Warnings.
 
@@ -239,6 +276,24 @@ export const demandLost = (place, asked, lost) =>
 /** @param {string} time     of the file's end */
 export const demandEnded = (time) =>
   `The demand in the road's file ends at ${time}. From then on, its last values apply.`;
+
+/**
+ * @param {number} count
+ * @param {string} from
+ * @param {string} to
+ */
+export const changesOutside = (count, from, to) =>
+  `${plural(count, "of your private changes lies", "of your private changes lie")} outside ${from} to `
+  + `${to}, the period of these figures. Choose Show in the list of changes.`;
+
+/**
+ * @param {number} count
+ * @param {string} road
+ * @param {string} from
+ * @param {string} to
+ */
+export const changesOfVariantOutside = (count, road, from, to) =>
+  `${plural(count, "change")} of ${road} ${byCount(count, "lies", "lie")} outside ${from} to ${to}, the period of these figures.`;
 
 /**
  * @param {number} cars

@@ -14,7 +14,7 @@ import {HOUR, LAST_STEP} from "./units.mjs";
 /** @typedef {import("./types.mjs").Change} Change */
 /** @typedef {import("./types.mjs").Rectangle} Rectangle */
 
-export const SPANS = [60, 150, 300, 900, 1800, 3600, 7200, 14400, 36000];   // steps
+export const SPANS = [60, 150, 300, 900, 1800, 3600, 7200, 14400, 36000, 86400];   // steps
 const LEAST_CELLS = 20;
 const AHEAD = 1800;             // steps of a look ahead
 
@@ -80,10 +80,10 @@ function setExtent(part) {
 /** Keep the clock at the lower edge; if motion is to be reduced, by jumps of a quarter. */
 function followClock() {
   const part = store.extent;
-  const wanted = Math.max(0, last() - part.span);
+  const wanted = Math.max(store.day.lead, last() - part.span);
   const isBehind = wanted > part.step || wanted < part.step - part.span / 2;
   if (!matchMedia("(prefers-reduced-motion: reduce)").matches) part.step = wanted;
-  else if (isBehind) part.step = wanted && wanted + part.span / 4;
+  else if (isBehind) part.step = wanted > store.day.lead ? wanted + part.span / 4 : wanted;
 }
 
 /** Stop following the clock. */
@@ -137,11 +137,17 @@ export function zoomBy(closer, {cell, step} = {}, {places = true, times = true} 
  */
 export function chooseSpan(span) {
   const end = Math.min(store.extent.step + store.extent.span, last());
-  setExtent({span, step: Math.max(0, end - span)});
+  setExtent({span, step: Math.max(Math.min(store.extent.step, store.day.lead), end - span)});
 }
 
-/** Show all cells of the road. */
+/** Show all cells of the road from km 0 on. */
 export function showWholeRoad() {
+  const {length, origin} = need("plan");
+  setExtent({cell: origin, cells: length - origin});
+}
+
+/** Show all cells of the road and of its approach. */
+export function showWithApproach() {
   setExtent({cell: 0, cells: need("plan").length});
 }
 

@@ -12,12 +12,13 @@ import {$, choose, chosen, element, on, oneOf} from "./elements.mjs";
 import {finishDrawing, requestDrawing} from "./loader.mjs";
 import {cellsOf} from "./geometry.mjs";
 import {dropDuplicates, placeOfLabel} from "./labels.mjs";
-import {SPANS, chooseSpan, paintBy, setPlotSize, showRoad, showWholeRoad, zoomBy} from "./navigation.mjs";
+import {SPANS, chooseSpan, paintBy, setPlotSize, showRoad, showWholeRoad, showWithApproach, zoomBy} from "./navigation.mjs";
 import {valueText} from "./shapetexts.mjs";
 import {keyOf} from "./stamps.mjs";
-import {isOwn, last, layersShown, need, now, roadOf, store, watch, whoseShown} from "./store.mjs";
+import {roadText} from "./roadnames.mjs";
+import {isOwn, last, layersOf, layersShown, need, now, roadOf, store, watch, whoseShown} from "./store.mjs";
 import {HOUR, KMH_A_CELL, LAST_STEP, METRES_A_CELL, whole} from "./units.mjs";
-import {byMeans, everyShown, partShown, viewNow} from "./view.mjs";
+import {byMeans, everyShown, partShown, viewNow, widthNow} from "./view.mjs";
 
 /** @typedef {import("../../viewer/drawing.mjs").LegendEntry} LegendEntry */
 /** @typedef {import("../../viewer/drawing.mjs").View} View */
@@ -27,6 +28,7 @@ import {byMeans, everyShown, partShown, viewNow} from "./view.mjs";
 /** @typedef {import("./types.mjs").Change} Change */
 /** @typedef {import("./types.mjs").Frame} Frame */
 /** @typedef {import("./types.mjs").Kind} Kind */
+/** @typedef {import("./types.mjs").RoadName} RoadName */
 /** @typedef {CanvasRenderingContext2D} Context */
 /**
  * A frame that is drawn: where a change is in force, or a shape that is not confirmed yet.
@@ -42,6 +44,8 @@ const LABEL = "600 13px system-ui, sans-serif";
 const LABEL_HIGH = 17;          // pixels
 const HALO_FROM = 16;           // pixels: larger frames have a white line around them
 const LEAST = 6;                // pixels: a smaller frame is drawn as large as this
+const BEFORE = 10;              // pixels before a picture that is beside another one, for the clock
+const UNIT_WIDE = 40;           // pixels of the unit above a picture
 
 // A cache of painted tiles. The page stores nothing else in it, so it may be cleared at any time.
 const tilesKept = new Tiles();
@@ -55,47 +59,93 @@ export function draw() {
   });
 }
 
-/** Draw the diagram now. */
+/** Draw the diagram now: one picture, or one of each road that is side by side. */
 export function drawDiagram() {
+  const {context, height} = cleared($("diagram"));
+  const [wide, apart] = widthNow();
+  const pictures = store.whose === "beside" ? whoseShown().map((road) => [road]) : [whoseShown()];
+  pictures.forEach((roads, place) => {
+    context.save();
+    context.translate(place * apart, 0);
+    drawPicture(context, roads, MARGIN.left + wide + MARGIN.right, height);
+    drawAround(context, MARGIN.left + wide + MARGIN.right, height, place > 0);
+    if (pictures.length > 1) drawName(context, roads[0], wide);
+    context.restore();
+  });
+}
+
+/** Draw the picture of a road, or of the difference of two.
+ * @param {Context} context
+ * @param {RoadName[]} roads
+ * @param {number} width     with the margins
+ * @param {number} height
+ */
+function drawPicture(context, roads, width, height) {
   const view = viewNow();
-  const {context, width, height} = cleared($("diagram"));
   clip(context, MARGIN.top, width, height - MARGIN.top - MARGIN.bottom);
   context.fillStyle = NO_ROW;
   context.fillRect(0, 0, width, height);
-  drawRows(context, view, width, height);
-  const frames = framesShown();
+  drawRows(context, view, roads, width, height);
+  const frames = framesOf(roads[0]);
   fillClosures(context, view, frames);
   drawAhead(context, view, width, height);
   const named = areOfSeveral(frames);
   const labels = frames.map((frame) => drawEdges(context, view, frame, named));
-  if (store.area) drawArea(context, view, store.area);
-  else drawLabels(context, view, frames, dropDuplicates(labels.flatMap((one) => one ?? [])));
+  if (store.area) drawArea(context, view, store.area, width);
+  else drawLabels(context, view, frames, dropDuplicates(labels.flatMap((one) => one ?? [])), width);
   if (store.cursor) drawFrame(context, view, store.cursor[1], store.cursor[0]);
   context.restore();
-  const plan = need("plan");
+}
+
+/** Draw what is around a picture: axes, plan and clock. A picture beside another one has no axis of
+ * time.
+ * @param {Context} context
+ * @param {number} width     with the margins
+ * @param {number} height
+ * @param {boolean} isBeside
+ */
+function drawAround(context, width, height, isBeside) {
+  const [view, plan] = [viewNow(), need("plan")];
+  context.save();
+  if (isBeside) {
+    context.beginPath();
+    context.rect(MARGIN.left - BEFORE, 0, width, height);
+    context.clip();
+  }
   drawAxes(context, view, partShown(), unitNow(), plan.length);
   drawPlan(context, view, plan, width);
   drawWedge(context, view, now(), INK, height);
+  context.restore();
+}
+
+/** Write the name of a road above its picture.
+ * @param {Context} context
+ * @param {RoadName} road
+ * @param {number} wide      pixels of the picture
+ */
+function drawName(context, road, wide) {
+  assign(context, {font: LABEL, textAlign: "right", textBaseline: "top", fillStyle: "#000000"});
+  context.fillText(roadText(road), MARGIN.left + wide, 3, wide - UNIT_WIDE);
 }
 
 /** Return the units of a cell and a step, with times as the road's clock writes them. */
 function unitNow() {
   const {day} = store;
-  return {...unitOf(METRES_A_CELL, 1, true, day.begin),
+  return {...unitOf(METRES_A_CELL, 1, true, (day.begin ?? 0) - day.lead), origin: need("plan").origin,
           textOf: (/** @type {number} */ step) => day.axisText(step)};
 }
 
 /** Draw the visible rows.
  * @param {Context} context
  * @param {View} view
+ * @param {RoadName[]} roads
  * @param {number} width
  * @param {number} height
  */
-function drawRows(context, view, width, height) {
+function drawRows(context, view, roads, width, height) {
   const every = everyShown();
-  const shown = whoseShown();
-  const [picture, other] = shown.map((whose) => roadOf(whose).level(every));
-  const name = `${shown.join("-")} ${every}`;
+  const [picture, other] = roads.map((whose) => roadOf(whose).level(every));
+  const name = `${roads.join("-")} ${every}`;
   const part = inView(view, picture, width, height);
   const how = {tiles: tilesKept, name, greatest: FASTEST};
   if (other) {
@@ -159,17 +209,21 @@ export function write(context, text, left, top, align = "left", colour = "#00000
   context.fillText(text, from, top + 2);
 }
 
-/** Return the frames of the road that is shown, without the demand of its file, and the frames of
- * shapes that are not confirmed yet.
+/** Return the frames of the road that is shown, of several those of the first. */
+export const framesShown = () => framesOf(whoseShown()[0]);
+
+/** Return the frames of a road that is shown, without the demand of its file, and the frames of shapes
+ * that are not confirmed yet.
+ * @param {RoadName} road
  * @returns {Drawn[]}
  */
-export function framesShown() {
+function framesOf(road) {
   const {seat, name} = need("me");
   /** @type {Drawn["by"]} */
   const own = {name: {count: 0, hash: ""}, seat, who: name};
-  const shapes = whoseShown()[0] === "mine" ? waitingShapes() : [];
+  const shapes = road === "mine" ? waitingShapes() : [];
   const waiting = shapes.map((shape) => ({...shape, by: own, pending: true}));
-  return [...layersShown().frames.filter(({by}) => !by.planned), ...waiting];
+  return [...layersOf(road).frames.filter(({by}) => !by.planned), ...waiting];
 }
 
 /** Return the box of a frame on the canvas.
@@ -259,12 +313,13 @@ function drawEdges(context, view, frame, named) {
  * @param {View} view
  * @param {Drawn[]} frames
  * @param {(Label & {colour: string})[]} labels
+ * @param {number} width
  */
-function drawLabels(context, view, frames, labels) {
-  const {clientWidth, clientHeight} = $("diagram");
+function drawLabels(context, view, frames, labels, width) {
+  const {clientHeight} = $("diagram");
   const lowest = Math.min(clientHeight - MARGIN.bottom, topOf(view, last()));
   /** @type {Box} */
-  const bounds = [MARGIN.left, MARGIN.top, clientWidth - MARGIN.right, lowest];
+  const bounds = [MARGIN.left, MARGIN.top, width - MARGIN.right, lowest];
   const taken = frames.filter(({kind}) => kind === "block").map((one) => cornersOf(view, one));
   context.font = LABEL;
   for (const {text, box, colour} of labels) {
@@ -281,8 +336,9 @@ function drawLabels(context, view, frames, labels) {
  * @param {Context} context
  * @param {View} view
  * @param {Area} area
+ * @param {number} width
  */
-function drawArea(context, view, area) {
+function drawArea(context, view, area, width) {
   const {shape, lines, fault} = area;
   const [left, top, right, bottom] = cornersOf(view, shape);
   context.fillStyle = fault ? "rgba(160, 0, 0, 0.35)" : "rgba(255, 255, 255, 0.45)";
@@ -296,8 +352,7 @@ function drawArea(context, view, area) {
   const said = fault ? [...lines, fault] : lines;
   context.font = LABEL;
   const wide = Math.max(...said.map((text) => context.measureText(text).width)) + 14;
-  const [plotWide] = store.plot;
-  const side = right + 10 + wide < MARGIN.left + plotWide ? right + 10
+  const side = right + 10 + wide < width - MARGIN.right ? right + 10
     : Math.max(MARGIN.left + 4, left - 10 - wide);
   const lowest = $("diagram").clientHeight - 24 - LABEL_HIGH * said.length;
   const upper = Math.max(MARGIN.top + 4, Math.min(top, lowest));
@@ -349,7 +404,7 @@ function showChoices() {
 }
 
 /** @type {import("./store.mjs").Store["whose"][]} */
-const ROADS = ["mine", "shared", "both"];
+const ROADS = ["mine", "shared", "both", "beside"];
 /** @type {import("./store.mjs").Store["paint"][]} */
 const PAINTS = ["zoom", "cars", "means"];
 
@@ -365,12 +420,14 @@ export function begin() {
   on("closer", "click", () => zoomBy(true));
   on("farther", "click", () => zoomBy(false));
   on("wholeRoad", "click", showWholeRoad);
+  on("withApproach", "click", showWithApproach);
   watch(["changedRows"], repaint);
-  watch(["preview", "outcome"], () => {
-    tilesKept.clear();          // each preview has new roads
+  watch(["preview", "outcome", "variants"], () => {
+    tilesKept.clear();          // each preview has new roads, and a variant may be named again
     draw();
   });
   watch(["me", "extent", "timings", "changes", "area", "cursor", "curves"], draw);
+  watch(["plan"], () => { $("withApproach").hidden = !need("plan").origin; });
   watch(["extent"], showLegend);
   watch(["extent"], showChoices);
   const measure = () => setPlotSize($("diagram").clientWidth - MARGIN.left - MARGIN.right,

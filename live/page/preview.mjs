@@ -97,7 +97,7 @@ function coversOf(changes, said) {
  */
 function figuresTable({figures, from, to}) {
   const caption = `${store.day.timeText(from)} to ${store.day.timeText(to)}`;
-  return element("div", "", {}, element("div", "", {className: "scrolled"}, figureTable("preview", "preview", figures, caption)),
+  return element("div", "", {}, element("div", "", {className: "scrolled"}, figureTable("preview", ["before", "after"], figures, caption)),
     element("p", [messages.READ_FIGURES, wordsOf(figures)].join(" ").trim(), {className: "hint"}));
 }
 

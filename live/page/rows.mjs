@@ -143,6 +143,7 @@ export class Road {
     this.levels = new Map();        // by the steps between rows
     this.version = 0;               // differs whenever the edits do
     this.minutes = new Minutes();
+    this.approach = new Minutes();  // those of the approach, if the road has one
   }
 
   /** Return the level of every n-th step; an empty one if it is not loaded.
@@ -172,6 +173,7 @@ export class Road {
   invalidate(step) {
     this.version++;
     this.minutes.invalidate(step);
+    this.approach.invalidate(step);
     for (const level of this.levels.values()) level.invalidate(step);
   }
 }

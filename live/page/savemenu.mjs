@@ -3,17 +3,19 @@
 
 import {EMPTY, drawLegend, pen} from "../../viewer/drawing.mjs";
 import {ask, askUntilFree} from "./questions.mjs";
-import {comparedNow, daysShown} from "./comparison.mjs";
+import {comparedAt, comparedNow, daysAsked, daysShown} from "./comparison.mjs";
+import {capital, listText, roadText, roadsText} from "./roadnames.mjs";
 import {measureDemands} from "./measurements.mjs";
 import {withoutCursor} from "./draft.mjs";
 import {$, activeIn, closest, download, on} from "./elements.mjs";
-import {Words, newestFirst} from "./changetexts.mjs";
+import {Words, isPlanned, newestFirst} from "./changetexts.mjs";
 import * as messages from "./messages.mjs";
 import {drawDiagram, legendEntries} from "./picture.mjs";
 import {claimFileName} from "./filenames.mjs";
-import {need, layersOf, now, store, tell} from "./store.mjs";
+import {BOTH, isBeside, need, layersOf, now, roadOf, store, tell} from "./store.mjs";
 import {csvOf, tableOfChanges, tableOfFigures, tableOfTravel} from "./tables.mjs";
-import {METRES_A_CELL, kmText, plural} from "./units.mjs";
+import {METRES_A_CELL, kmText, plural, rangeText} from "./units.mjs";
+import {refreshFixed} from "./variants.mjs";
 import {partShown, periodShown} from "./view.mjs";
 
 /** @typedef {import("./layers.mjs").Layers} Layers */
@@ -29,7 +31,7 @@ const LEGEND_WIDE = 900;
 const roadShown = () => (store.whose === "shared" ? "shared" : need("me").at);
 
 /** Return what a road is called in the name of a file. */
-const fileRoad = (at = roadShown()) => (at === "shared" ? "shared" : need("me").name);
+const fileRoad = (at = roadShown()) => (at === need("me").at ? need("me").name : at.replace("variant:", ""));
 
 /** Return a name that no other saved file has: of what it is, the road's file, whose road it is, and
  * from when to when.
@@ -63,10 +65,12 @@ function saveAs(what, lines, type, whose = fileRoad(), period = periodShown()) {
 export function captionText() {
   const {name} = need("me");
   const whose = {mine: `The road of ${name}`, shared: "The shared road",
-                 both: `The road of ${name} minus the shared one`}[store.whose];
+                 both: `The road of ${name} minus the shared one`,
+                 beside: `${capital(comparedRoads())}, side by side`}[store.whose];
   const {cells, steps} = partShown();
-  const [places, times] = [cells.map(Math.round).map(kmText), steps.map((step) => store.day.timeText(step))];
-  return `${whose}, ${places.join("\u2013")} km, ${times.join("\u2013")}`
+  const [from, to] = cells.map((cell) => kmText(need("plan"), Math.round(cell)));
+  const [begin, end] = steps.map((step) => store.day.timeText(step));
+  return `${whose}, ${rangeText(from, to)} km, ${rangeText(begin, end)}`
     + (now() < steps[1] ? `; the clock is at ${store.day.timeText(now())}` : "");
 }
 
@@ -98,7 +102,8 @@ function savePicture() {
       tell(messages.NO_PICTURE, true);
       return;
     }
-    const whose = store.whose === "both" ? `${need("me").name}-minus-shared` : fileRoad();
+    const whose = store.whose === "both" ? `${need("me").name}-minus-shared`
+      : store.whose === "beside" ? comparedFile() : fileRoad();
     const name = saveAs("diagram.png", [blob], "image/png", whose);
     tell(messages.savedPicture(name));
   });
@@ -129,39 +134,49 @@ async function saveTranscript() {
   const lines = await transcriptLines();
   if (!lines) return;
   const name = saveAs("transcript.jsonl", lines, "application/jsonl");
-  tell(messages.savedTranscript(name, METRES_A_CELL));
+  tell(messages.savedTranscript(name, METRES_A_CELL, need("plan").origin));
 }
 
-/** Save the commands of both roads, up to the clock, in a file each. */
+/** Save the commands of both roads, up to the clock, in a file each; if roads are side by side, of these. */
 async function saveScripts() {
   const saved = [];
-  for (const at of [need("me").at, "shared"]) {
+  for (const {at} of (isBeside() ? store.chosen : BOTH).map(roadOf)) {
     const said = await askUntilFree({script: {at}});
     if (!said || "refused" in said) return;
     saved.push(saveAs("script.jsonl", [said.lines], "application/jsonl", fileRoad(at), [0, said.to]));
   }
-  tell(messages.savedScripts(saved));
+  tell(messages.savedScripts(saved, METRES_A_CELL, need("plan").origin, store.day.lead));
 }
 
 /** Return the name of the road's file and its date, if they are known, as the end of a title. */
 const fileAndDate = () => [need("me").road, need("me").day?.date].filter(Boolean)
   .map((one) => `, ${one}`).join("");
 
-/** Return the title of a table of the two roads.
+/** Return what the roads that are compared are called in a sentence. */
+function comparedRoads() {
+  if (store.preview) return "the road before and after";
+  const {name} = need("me");
+  return isBeside() ? roadsText(store.chosen, name) : `the road of ${name} and the shared one`;
+}
+
+/** Return what the roads that are compared are called in the name of a file. */
+function comparedFile() {
+  if (store.preview) return "before-after";
+  return isBeside() ? store.chosen.map((road) => fileRoad(roadOf(road).at)).join("-") : `${need("me").name}-shared`;
+}
+
+/** Return the title of a table of the roads that are compared.
  * @param {number} from      step
  * @param {number} to
  */
 function comparedText(from, to) {
-  const of = comparedNow() === "preview" ? "the road before and after"
-    : `the road of ${need("me").name} and the shared one`;
-  return `${of}${fileAndDate()}, ${store.day.timeText(from)} to ${store.day.timeText(to)}`;
+  return `${comparedRoads()}${fileAndDate()}, ${store.day.timeText(from)} to ${store.day.timeText(to)}`;
 }
 
 /** Save the figures of the roads that are compared: those of many days if these are shown. */
 async function saveFigures() {
-  const {at, name} = need("me");
-  const of = comparedNow();
-  const whose = of === "preview" ? "before-after" : `${name}-shared`;
+  const {at} = need("me");
+  const [roads, of, whose] = [comparedNow(), comparedAt(), comparedFile()];
   const days = daysShown()?.said;
   const [from, to] = days ? [days.from, days.to] : periodShown();
   if (to <= from) {
@@ -169,28 +184,28 @@ async function saveFigures() {
     return;
   }
   if (days) {
-    saveLines(`${comparedText(from, to)}, ${plural(days.days, "day")}`, tableOfFigures(of, days),
+    saveLines(`${comparedText(from, to)}, ${plural(days.days, "day")}`, tableOfFigures(roads, days),
       `figures-${days.days}-days.csv`, whose, [from, to]);
     return;
   }
   const said = await askUntilFree({figures: {at, of, from, to}});
   if (said && !("refused" in said)) {
-    saveLines(comparedText(from, to), tableOfFigures(of, said), "figures.csv", whose, [from, to]);
+    saveLines(comparedText(from, to), tableOfFigures(roads, said), "figures.csv", whose, [from, to]);
   }
 }
 
 /** Save travel times by the minute of entry, of the roads that are compared. */
 async function saveTravel() {
-  const {at, name} = need("me");
-  const [of, [from, to]] = [comparedNow(), periodShown()];
+  const {at} = need("me");
+  const [roads, of, [from, to]] = [comparedNow(), comparedAt(), periodShown()];
   if (to <= from) {
     tell(messages.NOTHING_COMPUTED, true);
     return;
   }
   const said = await askUntilFree({figures: {at, of, from, to}});
   if (!said || "refused" in said) return;
-  saveLines(`travel times of ${comparedText(from, to)}`, tableOfTravel(need("plan"), of, said, store.day),
-    "travel-times.csv", of === "preview" ? "before-after" : `${name}-shared`, [from, to]);
+  saveLines(`travel times of ${comparedText(from, to)}`, tableOfTravel(need("plan"), roads, said, store.day),
+    "travel-times.csv", comparedFile(), [from, to]);
 }
 
 /** Save a table.
@@ -204,62 +219,90 @@ function saveLines(title, lines, what, whose, period) {
   tell(messages.savedFile(saveAs(what, [csvOf(title, lines)], "text/csv", whose, period)));
 }
 
+const DAYS_OF_REPORT = 5;           // that the server gives a report if no table of days is shown
 const MOST_SENTENCES = 200;         // lines of a report
 const MOST_CHARACTERS = 200;    // of a line
 
-/** Return the changes of a road that are not withdrawn, in sentences, the oldest first.
+/** Return the changes of a road that are not withdrawn, in sentences, the oldest first, without the demand
+ * and the drivers of the road's file.
  * @param {Layers} layers
  */
 const textsOf = (layers) => newestFirst([...layers.changes.values()]
-  .filter(({standing, site, planned}) => standing && site === null && !planned)).reverse()
+  .filter((change) => change.standing && change.site === null && !isPlanned(change))).reverse()
   .map((change) => new Words(layers, -1).text(change));
 
-/** Return the changes of the roads that are compared, in sentences: those of the later road, then
- * those that only the other one has.
- */
-async function worksText() {
-  const isPreview = comparedNow() === "preview";
-  const both = isPreview ? [layersOf("after"), layersOf(need("preview").takes ? "mine" : "shared")]
-    : [layersOf("mine"), layersOf("shared")];
-  for (const one of both) {
-    await measureDemands(one, (done, all) => tell(messages.measuringDemands(done, all)));
-  }
-  const [after, before] = both.map(textsOf);
-  const gone = before.filter((text) => !after.includes(text));
-  const fresh = after.map((text) => (before.includes(text) ? text : `${text} (new)`));
-  return [...fresh, ...gone.map((text) => `${text} (only before)`)].slice(0, MOST_SENTENCES)
-    .map((text) => text.slice(0, MOST_CHARACTERS));
+/** Return the lists of changes of the roads that are compared. */
+function comparedLayers() {
+  if (!store.preview) return comparedNow().map(layersOf);
+  return [layersOf(need("preview").takes ? "mine" : "shared"), layersOf("after")];
 }
 
-/** Save the report of the roads that are compared: a page that prints. */
+/** Return the changes of the roads that are compared, in sentences: of two roads those of the later one,
+ * then those that only the other one has; of several, those of all roads, each with the roads that have
+ * it.
+ */
+async function worksText() {
+  const lists = comparedLayers();
+  for (const one of lists) {
+    await measureDemands(one, (done, all) => tell(messages.measuringDemands(done, all)));
+  }
+  const texts = lists.map(textsOf);
+  const said = isBeside() && !store.preview ? worksOfSeveral(texts) : worksOfTwo(texts);
+  return said.slice(0, MOST_SENTENCES).map((text) => text.slice(0, MOST_CHARACTERS));
+}
+
+/** @param {string[][]} texts      of the earlier road and of the later one */
+function worksOfTwo([before, after]) {
+  const gone = before.filter((text) => !after.includes(text));
+  const fresh = after.map((text) => (before.includes(text) ? text : `${text} (new)`));
+  return [...fresh, ...gone.map((text) => `${text} (only before)`)];
+}
+
+/** @param {string[][]} texts      of each road */
+function worksOfSeveral(texts) {
+  const names = comparedNow().map((road) => (road === "mine" ? need("me").name : roadText(road)));
+  return [...new Set(texts.flat())].map((text) => {
+    const those = names.filter((_, place) => texts[place].includes(text));
+    return those.length < names.length ? `${text} (${listText(those)})` : text;
+  });
+}
+
+/** Save the report of the roads that are compared: a page that prints. It has the period and the days of
+ * the table of days, if that is shown.
+ */
 async function saveReport() {
   const {at, name, day} = need("me");
-  const [from, to] = periodShown();
-  const of = comparedNow();
-  if (to <= from || (of === "preview" && !store.layers.after)) {
+  const [of, whose, table] = [comparedAt(), comparedFile(), daysShown()?.said];
+  const [from, to] = table ? [table.from, table.to] : periodShown();
+  if (to <= from || (store.preview && !store.layers.after)) {
     tell(messages.NOTHING_COMPUTED, true);
     return;
   }
   const date = day?.date ? `, ${day.date}` : "";
-  const title = `${of === "preview" ? "A road before and after" : `The road of ${name}, and the shared one`}: `
+  const roads = store.preview ? "A road before and after"
+    : isBeside() ? capital(comparedRoads()) : `The road of ${name}, and the shared one`;
+  const title = `${roads}: `
     + `${store.day.timeText(from)} to ${store.day.timeText(to)}${date}`;
   const works = await worksText();
-  tell(messages.MAKING_REPORT);
-  const said = await askUntilFree({report: {at, of, from, to, title, works}});
+  tell(messages.makingReport(table?.days ?? DAYS_OF_REPORT));
+  const approach = store.extent.cell < need("plan").origin;
+  const said = await askUntilFree({report: {at, of, from, to, title, works, ...(approach ? {approach} : {}),
+                                             ...(table ? {days: table.days} : {})}});
   if (!said || "refused" in said) return;
-  const whose = of === "preview" ? "before-after" : `${name}-shared`;
   const saved = saveAs("report.html", [said.html], "text/html", whose, [from, to]);
-  tell(messages.savedReport(saved));
+  const isFewer = !table && said.days > 1;
+  tell(messages.savedReport(saved) + (isFewer ? ` ${messages.daysOfReport(said.days, daysAsked())}` : ""));
 }
 
-/** Return the name of the road that is shown, for the title of a table. */
-const roadText = () => (roadShown() === "shared" ? "the shared road" : `the road of ${need("me").name}`);
-
-/** Save the history: who did what and when, where it is in force, and what covers it. */
-function saveChanges() {
-  const layers = layersOf(roadShown() === "shared" ? "shared" : "mine");
-  saveLines(`changes of ${roadText()}${fileAndDate()}, up to ${store.day.timeText(now())}`, tableOfChanges(layers), "changes.csv",
-    fileRoad(), [0, now()]);
+/** Save the history of the road that is shown, or of the roads that are side by side: who did what and when,
+ * where it is in force, and what covers it.
+ */
+async function saveChanges() {
+  const roads = isBeside() ? store.chosen : [roadShown() === "shared" ? BOTH[1] : BOTH[0]];
+  await refreshFixed();
+  const title = `changes of ${roadsText(roads, need("me").name)}${fileAndDate()}, up to ${store.day.timeText(now())}`;
+  saveLines(title, tableOfChanges(roads, roads.map(layersOf)), "changes.csv", roads.map((road) => fileRoad(roadOf(road).at)).join("-"),
+    [0, now()]);
 }
 
 /** Save the counts of the road that is shown, in the period that is shown: a line for five minutes. */

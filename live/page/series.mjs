@@ -1,11 +1,12 @@
-// View: flow and speed by time at a detector, and travel times by the minute of entry: mine against
-// shared, or the road before and after in a preview. The pointer or an arrow key selects a point.
+// View: flow and speed by time at a detector, and travel times by the minute of entry, of the roads that
+// are compared. The pointer or an arrow key selects a point.
 
 import {assign} from "./assign.mjs";
 import {$, element, on} from "./elements.mjs";
 import {askSeries, chooseEnd, chooseSite, exactOf, readPoint} from "./loader.mjs";
 import {setOpen} from "./navigation.mjs";
-import {need, store, watch} from "./store.mjs";
+import {roadText} from "./roadnames.mjs";
+import {figureRoads, need, store, watch} from "./store.mjs";
 import {MINUTE, kmText, whole} from "./units.mjs";
 
 /** @typedef {import("./types.mjs").DetectorFigures} DetectorFigures */
@@ -14,18 +15,23 @@ import {MINUTE, kmText, whole} from "./units.mjs";
 /** @typedef {[x: number, y: number]} Point          pixels */
 /**
  * A chart: its canvas, unit, smallest top of its axis, first and last step, and steps per point.
- * `sides` has the values of two roads, one for each point; null if a point has no value.
+ * `sides` has the values of each road, one for each point; null if a point has no value.
  * @typedef {{id: ChartId, unit: string, smallestTop: number, from: number, to: number, each: number,
  *            sides: (number | null)[][]}} Chart
  */
 
-const COLOURS = ["#0072b2", "#c24e00"];        // as in the report: the road before, and after
+const COLOURS = ["#0072b2", "#c24e00", "#009e73", "#cc79a7"];        // as in the report, in the order of roads
 const LEFT = 44, RIGHT = 6, TOP = 8, BOTTOM = 16;       // pixels around a plot: labels are not clipped
 const TALL_ENOUGH = 880;        // pixels: the height of a window from which it starts open
 const MOST_POINTS = 720;        // minutes of entry that are drawn
 
-/** Return the names of the two roads, in order: before, after. */
-const namesNow = () => (store.outcome?.layers ? ["before", "after"] : ["shared", "mine"]);
+/** Return the names of the roads whose travel times are shown. */
+const namesNow = () => (store.outcome?.layers ? ["before", "after"] : figureRoads().map(roadText));
+
+/** Return the places of roads in the order of texts: the later one of two comes first.
+ * @param {string[]} names
+ */
+const orderOf = (names) => (names.length === 2 ? [1, 0] : names.map((_, side) => side));
 
 /** Return the charts of flow and speed at the detector that is chosen; none if they are not known.
  * @returns {Chart[]}
@@ -56,12 +62,12 @@ function figuresNow() {
 function travelChart() {
   const figures = figuresNow();
   if (!figures) return null;
-  const {from, to, entries: {before, after}} = figures;
+  const {from, to, entries} = figures;
   const minutes = Math.ceil((to - from) / MINUTE);
   if (minutes > MOST_POINTS) return null;
   const place = store.series.end ?? need("plan").detectors.length;
-  const sides = [before, after].map((entries) => {
-    const byMinute = new Map(entries.map(({step, trips}) => [(step - from) / MINUTE, trips[place].seconds]));
+  const sides = entries.map((each) => {
+    const byMinute = new Map(each.map(({step, trips}) => [(step - from) / MINUTE, trips[place].seconds]));
     return Array.from({length: minutes}, (_, minute) => byMinute.get(minute) ?? null);
   });
   return {id: "travelChart", unit: "s", smallestTop: 60, from, to, each: MINUTE, sides};
@@ -161,14 +167,13 @@ function detectorText(flow, speed) {
 const spanOf = ({from, to, each}, point) =>
   store.day.spanText(from + point * each, Math.min(to, from + (point + 1) * each));
 
-/** Return the text of flow and speed at the selected point. The `after` road comes first, as in the
- * table.
+/** Return the text of flow and speed at the selected point.
  * @param {Chart[]} charts   of flow and speed
  */
 function readingText([flows, speeds]) {
   const {point, names} = store.series;
   if (point === null) return "Point at a chart, or use its arrow keys, to read values.";
-  return `${spanOf(flows, point)}: ` + [1, 0].map((side) =>
+  return `${spanOf(flows, point)}: ` + orderOf(names).map((side) =>
     `${names[side]} ${detectorText(flows.sides[side][point], speeds.sides[side][point])}`).join("; ");
 }
 
@@ -183,7 +188,7 @@ function travelText(chart) {
   const names = namesNow();
   const text = (/** @type {number | null} */ value) => (value === null ? "no car" : `${whole(value)} s`);
   return `Entered ${spanOf(chart, minute)}: `
-    + [1, 0].map((side) => `${names[side]} ${text(chart.sides[side][minute])}`).join("; ");
+    + orderOf(names).map((side) => `${names[side]} ${text(chart.sides[side][minute])}`).join("; ");
 }
 
 /** Show the charts, if they are open. */
@@ -207,7 +212,7 @@ function show() {
 /** Show which colour is which road. */
 function showRoadColours() {
   const {names} = store.series;
-  $("seriesLegend").replaceChildren(...[1, 0].map((side) => {
+  $("seriesLegend").replaceChildren(...orderOf(names).map((side) => {
     const line = element("span", "", {className: "swatch"});
     line.style.background = COLOURS[side];
     return element("li", "", {}, line, names[side]);
@@ -248,8 +253,9 @@ const readAt = (id, {sides: [one]}, point) =>
 
 /** Fill the choices of places from the plan. */
 function showPlaces() {
-  const options = () => need("plan").detectors.map((cell, index) =>
-    new Option(`${kmText(cell)} km`, String(index)));
+  const plan = need("plan");
+  const options = () => plan.detectors.map((cell, index) =>
+    new Option(`${kmText(plan, cell)} km`, String(index)));
   $("seriesSite").replaceChildren(...options());
   $("seriesEnd").replaceChildren(...options(), new Option("the road's end", ""));
 }

@@ -14,6 +14,7 @@ import * as messages from "./messages.mjs";
 import {Road} from "./rows.mjs";
 import {BOTH, notify, need, layersOf, roadOf, store, tell} from "./store.mjs";
 import {titlesOf} from "./changetexts.mjs";
+import {renewFixed, takeVariants} from "./variants.mjs";
 
 /** @typedef {import("./types.mjs").Broker} Broker */
 /** @typedef {import("./types.mjs").News} News */
@@ -25,7 +26,7 @@ import {titlesOf} from "./changetexts.mjs";
 /** @typedef {import("./types.mjs").Pushed} Pushed */
 /** @typedef {{welcome: Welcome} | (Refusal & {seats?: Seat[]})} HelloAnswer */
 
-const TAB_FORM = 6;             // version of the protocol with the server
+const TAB_FORM = 7;             // version of the protocol with the server
 const REPLACED_SHOWN = 60_000;  // milliseconds for which the page shows that the program was restarted
 /** @type {(name: string) => string} */
 const stored = (name) => sessionStorage.getItem(name) ?? "";
@@ -137,9 +138,9 @@ async function welcome(said) {
   sessionStorage.removeItem("asks");
   storeSeat(said);
   assign(store, {me: said, limits: said.most ?? store.limits, programNote: said.standing ?? "",
-                 closedNote: remembered("closed"), day: new DayClock(said.day ?? {})});
+                 closedNote: remembered("closed"), day: new DayClock(said.day ?? {}, said.lead)});
   assign(store.clock, {now: said.now, rate: said.rate});
-  if (!store.plan) makeRoads(said.plan);
+  if (!store.plan) makeRoads({...said.plan, origin: said.origin ?? 0});
   for (const whose of BOTH) layersOf(whose).day = store.day;
   assign(roadOf("mine"), {at: said.at, horizon: 0});
   roadOf("shared").horizon = 0;
@@ -155,7 +156,8 @@ async function welcome(said) {
   }
   restorePending();
   const sent = [...store.pending.keys()].map(send);
-  await Promise.all([...sent, refreshChanges("mine"), refreshChanges("shared"), askPreview()]);
+  takeVariants(said.variants ?? []);
+  await Promise.all([...sent, refreshChanges("mine"), refreshChanges("shared"), renewFixed(), askPreview()]);
   HANDLERS.clock(store.clock);
 }
 
@@ -163,11 +165,11 @@ async function welcome(said) {
  * @param {Plan} plan
  */
 function makeRoads(plan) {
-  const {length} = plan;
+  const {length, origin} = plan;
   const how = {day: store.day, findCurve: curveAt};
   assign(store, {plan, roads: {mine: new Road("", length), shared: new Road("shared", length)},
                  layers: {mine: new Layers(plan, how), shared: new Layers(plan, how)}});
-  store.extent.cells = length;
+  assign(store.extent, {cell: origin, cells: length - origin, step: store.day.lead});
   notify("plan");
 }
 
@@ -188,7 +190,7 @@ function setConnectionText(text, isAway) {
 function noteLost(again, reason, code) {
   store.openRowQuestions = 0;
   if (code === TAKEN_OVER) sessionStorage.removeItem("key");
-  for (const road of Object.values(store.roads)) road.isAdvancing = false;
+  for (const road of Object.values(store.roads)) if (road) road.isAdvancing = false;
   setConnectionText(again ? messages.RECONNECTING : reason || messages.CONNECTION_CLOSED, true);
   if (store.me) persistPending();
   const text = again ? messages.connectionLost(store.isPersisted)

@@ -3,7 +3,7 @@
 // of its inlet, once that is measured.
 
 import {OF_ZONES, cellsOf} from "./geometry.mjs";
-import {ALWAYS, chanceText, demandOfChance, kmText, limitText, metresText, plural, whole} from "./units.mjs";
+import {ALWAYS, chanceText, demandOfChance, kmText, limitText, metresText, plural, rangeText, whole} from "./units.mjs";
 
 /** @typedef {import("./types.mjs").Kind} Kind */
 /** @typedef {import("./types.mjs").Plan} Plan */
@@ -18,8 +18,8 @@ import {ALWAYS, chanceText, demandOfChance, kmText, limitText, metresText, plura
  */
 export function placesText(plan, kind, first, last) {
   const [from, to] = cellsOf(plan, kind, first, last);
-  if (kind === "inflow" || kind === "watch") return `at ${kmText(from)} km`;
-  return `${kmText(from)}\u2013${kmText(to)} km`;
+  if (kind === "inflow" || kind === "watch") return `at ${kmText(plan, from)} km`;
+  return `${rangeText(kmText(plan, from), kmText(plan, to))} km`;
 }
 
 /** Return the value of a shape in a few words, as text.

@@ -28,10 +28,11 @@ import {HOUR} from "./units.mjs";
 /** @typedef {import("./types.mjs").Timing} Timing */
 /** @typedef {import("./types.mjs").Welcome} Welcome */
 /** @typedef {import("./types.mjs").Wishes} Wishes */
-/** @typedef {"mine" | "shared" | "before" | "after"} RoadName     `before`, `after`: of a preview */
+/** @typedef {import("./types.mjs").RoadName} RoadName */
+/** @typedef {import("./types.mjs").Whose} Whose */
 /** @typedef {ReturnType<typeof setTimeout>} Timer */
 /** @typedef {"undo" | "redo"} Press */
-/** @typedef {"asTable" | "past" | "series"} Fold     a part of the page that can be folded, by its id */
+/** @typedef {"asTable" | "past" | "roadsPart" | "series"} Fold     a part of the page that can be folded, by its id */
 /** @typedef {"limit" | "watch" | "demand" | "inlet" | "site" | "slow" | "start" | "capacity"
  *           | "worksLimit" | "kmFrom" | "kmTo" | "timeFrom" | "timeTo"} Field     of the form, by its id */
 /** @typedef {Record<Field, string>} FormValues   as they are typed */
@@ -81,7 +82,7 @@ import {HOUR} from "./units.mjs";
  * @property {number} forecastEnd      the step up to which the own road is shown ahead of the clock
  * @property {Partial<Record<RoadName, Road>>} roads     rows and sums
  * @property {Partial<Record<RoadName, Layers>>} layers  changes; a preview has those of `after`
- * @property {Map<"mine" | "shared", Refresh>} refreshes    questions for changes that are under way
+ * @property {Map<RoadName, Refresh>} refreshes    questions for changes that are under way
  * @property {Map<string, Curve | Promise<Curve | null>>} curves     what inlets admit, by what it
  *   depends on; a promise until it is known
  *
@@ -109,7 +110,10 @@ import {HOUR} from "./units.mjs";
  * What is shown of the road.
  * @property {Extent} extent
  * @property {[wide: number, high: number]} plot     pixels of the diagram's plot
- * @property {"mine" | "shared" | "both"} whose
+ * @property {Whose} whose
+ * @property {RoadName[]} chosen       to be compared and shown side by side, if they are two or more
+ * @property {string[]} variants       names of the seat's variants
+ * @property {RoadName[]} openLists     variants whose changes are listed
  * @property {"zoom" | "cars" | "means"} paint
  * @property {boolean} follows         the diagram follows the clock
  * @property {Record<Fold, boolean>} isOpen
@@ -132,7 +136,7 @@ import {HOUR} from "./units.mjs";
  *   views would move it
  */
 /**
- * Flow and speed by time of two roads: their names, the period, the steps per point, and for each road
+ * Flow and speed by time of roads: their names, the period, the steps per point, and for each road
  * what its detectors counted in each span; the detector that is shown, and the one to which travel
  * times are shown (null: the road's end); the point and the minute of entry that are selected.
  * @typedef {{key: string, names: string[], from: number, to: number, each: number,
@@ -140,7 +144,7 @@ import {HOUR} from "./units.mjs";
  *            point: number | null, minute: number | null}} Series
  */
 /**
- * The figures of a period, mine first.
+ * The figures of a period, in the order of the roads.
  * @typedef {object} FiguresKnown
  * @property {DetectorFigures[][] | null} counts     what the detectors of each road counted
  * @property {Span | null} period      of the counts
@@ -171,8 +175,10 @@ export const store = {
   form: {limit: "2", watch: "0", demand: "1000", inlet: "0", site: "0", slow: "25", start: "50",
          capacity: "900", worksLimit: "2", kmFrom: "", kmTo: "", timeFrom: "", timeTo: ""},
 
-  extent: {cell: 0, cells: 0, step: 0, span: HOUR}, plot: [800, 400], whose: "mine", paint: "zoom",
-  follows: true, isOpen: {asTable: false, past: false, series: false}, area: null, corner: null,
+  extent: {cell: 0, cells: 0, step: 0, span: HOUR}, plot: [800, 400], whose: "mine", chosen: [], variants: [],
+  openLists: [],
+  paint: "zoom",
+  follows: true, isOpen: {asTable: false, past: false, roadsPart: false, series: false}, area: null, corner: null,
   cursor: null, drag: null, lastClick: {when: -Infinity, x: 0, y: 0}, reading: null,
   figures: {counts: null, period: null, wanted: [0, 0], key: "", exact: null, exactKey: "",
             asking: false, counting: false, soon: undefined},
@@ -234,7 +240,7 @@ export function watch(parts, show) {
  * @type {(keyof Store)[]}
  */
 const MOVES = ["clock", "days", "figures", "connectionText", "changes", "news", "others", "outcome",
-               "message", "sites", "siteFaults"];
+               "message", "sites", "siteFaults", "variants"];
 
 /** Show parts that have changed in the views. Parts whose views move buttons wait until no button is
  * held down, so that a pressed button stays where it is.
@@ -280,13 +286,23 @@ export const last = () => Math.max(store.clock.now, store.forecastEnd);
  */
 export const isOwn = ({seat}) => seat === need("me").seat;
 
-/** Return the road that is shown, or two: then their difference is drawn, the first minus the second.
+/** Return the roads whose figures are shown; the others are compared with the first.
+ * @returns {RoadName[]}
+ */
+export const figureRoads = () => (isBeside() ? store.chosen : ["shared", "mine"]);
+
+/** Ask whether roads are chosen that are compared and shown side by side. */
+export const isBeside = () => store.chosen.length > 1;
+
+/** Return the roads that are shown: one, or those that are side by side, or two whose difference is
+ * drawn, the first minus the second.
  * @returns {RoadName[]}
  */
 export function whoseShown() {
+  if (store.whose === "beside") return figureRoads();
   if (store.whose !== "both") return [store.whose];
   return store.outcome?.layers ? ["after", "before"] : ["mine", "shared"];
 }
 
-/** Return the changes of the road that is shown, of two those of the first. */
+/** Return the changes of the road that is shown, of several those of the first. */
 export const layersShown = () => layersOf(whoseShown()[0]);

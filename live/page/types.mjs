@@ -20,6 +20,12 @@
  * A part of a change. `by` names the change that covers it there; null: it is in force.
  * @typedef {Shape & {by: Stamp | null}} Rectangle
  *
+ * A road: the own one, the shared one, the two of a preview, that of the road's file, or a variant.
+ * @typedef {"mine" | "shared" | "before" | "after" | "file" | `variant:${string}`} RoadName
+ *
+ * Which road the diagram shows: one of two, their difference, or the roads that are chosen, side by side.
+ * @typedef {"mine" | "shared" | "both" | "beside"} Whose
+ *
  * @typedef {[cells: number, steps: number]} Stride
  * @typedef {[cell: number, step: number]} Place
  * @typedef {[from: number, to: number]} Span          steps or cells, the end excluded
@@ -29,7 +35,7 @@
 /**
  * A scenario's plan line. Zones are `zone` cells long, each with a speed limit (cells a step) and
  * a slowing chance (1/65,536); an inlet has a cell and an inflow chance (1/65,536).
- * @typedef {object} Plan
+ * @typedef {object} WirePlan
  * @property {number} length          cells
  * @property {number} exit            cells of the deleted zone
  * @property {number} zone            cells
@@ -38,6 +44,9 @@
  * @property {number[]} detectors     cells
  * @property {number | string} words
  * @property {string[]} replicas
+ *
+ * A plan with the cell at km 0, before which is the approach.
+ * @typedef {WirePlan & {origin: number}} Plan
  */
 
 /**
@@ -142,18 +151,17 @@
  * null is not known.
  * @typedef {{mean: number | null, half: number | null}} Mean
  *
- * A figure of two roads. `bound` says how the true one relates to it, and `words` is a sentence that
- * it needs, if there are any.
- * @typedef {{figure: FigureHead, before: Mean, after: Mean, difference: Mean, bound: string,
+ * A figure: its value on each road, and each later road minus the first. `bounds` says how the true
+ * differences relate to these, and `words` are sentences that the figure needs, if there are any.
+ * @typedef {{figure: FigureHead, values: Mean[], differences: Mean[], bounds: string[],
  *            words: string}} FigureRow
  *
- * The figures of two roads over many days.
+ * The figures of roads over many days.
  * @typedef {{from: number, to: number, days: number, stopped: boolean, figures: FigureRow[]}}
  *   DaysFigures
  *
- * The figures of two roads, and their travel times by the minute of entry, in the order of minutes.
- * @typedef {{from: number, to: number, figures: FigureRow[], entries: {before: Entry[], after: Entry[]}}}
- *   Figures
+ * The figures of roads, and the travel times of each by the minute of entry, in the order of minutes.
+ * @typedef {{from: number, to: number, figures: FigureRow[], entries: Entry[][]}} Figures
  */
 
 /**
@@ -163,7 +171,9 @@
  * @property {number} seat
  * @property {string} name
  * @property {string} key             the tab has its seat again with this when it is reloaded
- * @property {Plan} plan
+ * @property {WirePlan} plan
+ * @property {number} [origin]        the cell at km 0
+ * @property {number} [lead]          the step at minute 0 of the road's file
  * @property {number} now             step of the clock
  * @property {number} rate            steps a second
  * @property {number | null} [stop]   the step at which a fast clock stops
@@ -175,10 +185,11 @@
  * @property {number | null} [demand_end]     the step at which the demand profile of the file ends
  * @property {string} [road]          the name of the road's file
  * @property {FigureHead[]} [figures]
+ * @property {string[]} [variants]    names of the seat's variants
  */
 
 /**
- * The time of day of step 0 in seconds after midnight, the time zone, and the date.
+ * The time of day of minute 0 in seconds after midnight, the time zone, and the date.
  * @typedef {{begin: number | null, zone: string | null, date?: string | null}} WireDay
  */
 
@@ -224,7 +235,7 @@
 /**
  * The question whether to share or take.
  * @typedef {object} Preview
- * @property {"mine" | "shared" | "both"} whose   the road that was shown before
+ * @property {Whose} whose            the road that was shown before
  * @property {boolean} takes
  * @property {string[] | undefined} names         of the changes to share; undefined: all
  * @property {Change[]} changes       what is shared
@@ -243,7 +254,7 @@
 
 /**
  * A comparison over many days: its roads, their versions, how many days are done, and the answer.
- * @typedef {{of: "mine" | "preview", key: string, done: number, said: DaysFigures | null}} Days
+ * @typedef {{of: RoadName[], key: string, done: number, said: DaysFigures | null}} Days
  *
  * When a gesture was made, had its rows, was painted, and was confirmed: milliseconds.
  * @typedef {{key: string, began: number, settled?: number, painted?: number, confirmed?: number,
@@ -285,10 +296,11 @@
  * @property {Curve} admission
  * @property {{value: number[]}} capacity
  * @property {{lines: string, to: number}} script
- * @property {{html: string}} report
- * @property {{sums: number[]}} sums
+ * @property {{html: string, days: number}} report
+ * @property {{sums: number[], approach?: number[]}} sums     of all cells; of the approach
  * @property {{lines: string, next: number | null}} transcript
  * @property {{csv: string}} csv
+ * @property {{name: string, variants: string[]}} variant
  * @property {object} clock
  *
  * Why a command was refused, by name and in a sentence.
@@ -341,11 +353,11 @@
  * @property {WireStamp | null} [redo]
  * @property {{stamp: WireStamp, by: string[]}[]} [blocked]
  *
- * @typedef {Omit<FigureRow, "before" | "after" | "difference">
- *   & {before: WireMean, after: WireMean, difference: WireMean}} WireFigureRow
+ * @typedef {Omit<FigureRow, "values" | "differences">
+ *   & {values: WireMean[], differences: WireMean[]}} WireFigureRow
  * @typedef {Record<string, WireTrip[]>} WireEntries
  * @typedef {Omit<Figures, "figures" | "entries">
- *   & {figures: WireFigureRow[], entries: {before: WireEntries, after: WireEntries}}} WireFigures
+ *   & {figures: WireFigureRow[], entries: WireEntries[]}} WireFigures
  * @typedef {Omit<DaysFigures, "figures"> & {figures?: WireFigureRow[]}} WireDays
  * @typedef {WireLayers & Pick<Done, "touched" | "us"> & {stamp: WireStamp}} WireDone
  * @typedef {Omit<Answers, "gesture" | "again" | "site" | "undo" | "take" | "layers" | "preview"

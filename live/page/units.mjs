@@ -1,6 +1,7 @@
 // Cells and steps in an engineer's units: a cell is 7.5 m and a step 1 s.
 
 /** @typedef {import("./types.mjs").Curve} Curve */
+/** @typedef {Pick<import("./types.mjs").Plan, "origin">} Road */
 /** @typedef {[at: number, value: number]} Point */
 
 export const METRES_A_CELL = 7.5;
@@ -11,9 +12,10 @@ export const ALWAYS = 65536;           // a chance of 1, in the plan's units
 export const LAST_STEP = 1048575;
 
 /** Return the place of a cell's beginning in km.
+ * @param {Road} road
  * @param {number} cell
  */
-export const kmOf = (cell) => cell * METRES_A_CELL / 1000;
+export const kmOf = ({origin}, cell) => (cell - origin) * METRES_A_CELL / 1000;
 
 /** Round a length in km to a number of decimals, a half up: 3.5025 gives 3.503, although its binary
  * fraction is a little less.
@@ -26,13 +28,25 @@ export function roundedKm(km, digits = 3) {
 }
 
 /** Return the place of a cell's beginning in km, as text.
+ * @param {Road} road
  * @param {number} cell
  */
-export const kmText = (cell) => String(roundedKm(kmOf(cell)));
+export const kmText = (road, cell) => String(roundedKm(kmOf(road, cell)));
 /** Return the cell that begins nearest to a place in km.
+ * @param {Road} road
  * @param {number} km
  */
-export const cellOfKm = (km) => Math.round(km * 1000 / METRES_A_CELL);
+export const cellOfKm = ({origin}, km) => Math.round(km * 1000 / METRES_A_CELL) + origin;
+/** Return a length of cells in km, as text.
+ * @param {number} cells
+ */
+export const lengthText = (cells) => kmText({origin: 0}, cells);
+/** Return two places or times as a range, as text. A dash would look like a sign if one is negative.
+ * @param {string} one
+ * @param {string} other
+ */
+export const rangeText = (one, other) =>
+  [one, other].join(one.startsWith("-") || other.startsWith("-") ? " to " : "\u2013");
 /** Return a length of cells in metres, as text.
  * @param {number} cells
  */

@@ -1,17 +1,40 @@
 // What follows from the extent of the diagram: its view, which rows are wanted, which minutes have
 // figures. It reads the store.
 
-import {BOX, meansAreSeen} from "../../viewer/drawing.mjs";
-import {need, last, store} from "./store.mjs";
+import {BOX, MARGIN, meansAreSeen} from "../../viewer/drawing.mjs";
+import {need, last, store, whoseShown} from "./store.mjs";
 import {MINUTE} from "./units.mjs";
 
 /** @typedef {import("../../viewer/drawing.mjs").View} View */
 /** @typedef {import("./types.mjs").Span} Span */
 
-/** Return the cell and the step in the plot's upper left corner, and the pixels of a cell and a step. */
+const BETWEEN = 16;             // pixels between pictures that are side by side
+
+/** Return the pixels of a picture's width, and those from the beginning of one picture to the next, if
+ * several are side by side.
+ * @returns {[wide: number, apart: number]}
+ */
+export function widthNow() {
+  const [wide] = store.plot;
+  const count = store.whose === "beside" ? whoseShown().length : 1;
+  const one = (wide - (count - 1) * BETWEEN) / count;
+  return [one, one + BETWEEN];
+}
+
+/** Return the cell and the step in a picture's upper left corner, and the pixels of a cell and a step. */
 export function viewNow() {
-  const {extent, plot: [wide, high]} = store;
-  return {cell: extent.cell, step: extent.step, scale: wide / extent.cells, tall: high / extent.span};
+  const {extent, plot: [, high]} = store;
+  return {cell: extent.cell, step: extent.step, scale: widthNow()[0] / extent.cells, tall: high / extent.span};
+}
+
+/** Return where a pixel of the diagram is in its picture.
+ * @param {number} x
+ */
+export function acrossNow(x) {
+  const apart = widthNow()[1];
+  const pictures = store.whose === "beside" ? whoseShown().length : 1;
+  const place = Math.max(0, Math.min(pictures - 1, Math.floor((x - MARGIN.left) / apart)));
+  return x - place * apart;
 }
 
 /** Return the part of the road and of time that is shown.
@@ -44,14 +67,14 @@ export function everyShown() {
 }
 
 /** Return the steps whose figures are shown: those of the minutes that are visible, at least in part.
- * In a preview these are all minutes of the run.
+ * In a preview these are all minutes from minute 0 on.
  * @returns {Span}
  */
 export function periodShown() {
   const {extent, preview} = store;
   const most = Math.floor(last() / MINUTE) * MINUTE;
   const end = preview ? most : Math.ceil((extent.step + extent.span) / MINUTE) * MINUTE;
-  const from = preview ? 0 : Math.floor(extent.step / MINUTE) * MINUTE;
+  const from = preview ? store.day.lead : Math.floor(extent.step / MINUTE) * MINUTE;
   return [from, Math.max(from, Math.min(end, most))];
 }
 
