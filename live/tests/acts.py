@@ -8,7 +8,7 @@ import signal
 from typing import Any
 
 from faulty import Bus, Here
-from figures_told import at_inlets, value
+from figures_told import at_inlets, mine, value
 from server.shell.client import RefusedReply, Seat
 from server.tabs.refusals import Refused
 from server.model.operations import Stamp
@@ -564,6 +564,18 @@ class Acts(Case):
                 self.assertEqual(closed(60, 69, 30, 60).items() <= (await numbers(ada)).items(), count < 19)
             self.assertEqual((undo, await numbers(ada)), (None, {}))
 
+    async def test_what_a_start_has_forgotten_does_not_come_back_at_the_next(self) -> None:
+        """Not even if newer operations are shared meanwhile, so that it would now be one of the newest private ones."""
+        gone = await put_layer(self.ada, "gone", CLOSED)
+        await self.ada.ask("undo", key="undo", stamp=gone)
+        stamps = [await put_layer(self.ada, f"g{count}", ["limit", 2, 2, 20 + count, 60, 1]) for count in range(20)]
+        for shared in ([], stamps[:10]):
+            await self.ada.ask("send", name="shared", stamps=shared)
+            self.a6.restart()
+            self.ada = await self.enterAsyncContext(self.a6.seat(key=self.ada.key))
+            held = (await self.ada.ask("operations"))["operations"]
+            self.assertEqual([tuple(one["stamp"]) for one in held], [tuple(stamp) for stamp in stamps])
+
     async def test_a_withdrawn_line_comes_back_whole_after_a_restart(self) -> None:
         line = await put_layer(self.ada, "line", CLOSED, note="works")
         for count in range(20):
@@ -638,7 +650,7 @@ class Previews(Case):
             tuple(self.his): ([["block", 60, 60, 30, 90, 1, None]],
                               [["block", 60, 60, 30, 50, 1, None], ["block", 60, 60, 50, 70, 1, self.mine],
                                ["block", 60, 60, 70, 90, 1, None]])})
-        figures = [await self.ada.ask("figures", of="preview", **{"from": first, "to": 200}) for first in (0, 100)]
+        figures = [await self.ada.ask("figures", of=["before", "after"], **{"from": first, "to": 200}) for first in (0, 100)]
         pictures = {name: await self.picture(name) for name in ("before", "after")}
         before = await self.picture("shared")
         self.assertEqual(self.seen(pictures["before"]), self.seen(before))
@@ -658,7 +670,7 @@ class Previews(Case):
         self.assertEqual(told, {tuple(self.his): (None, [
             ["block", 60, 60, 30, 50, 1, None], ["block", 60, 60, 50, 70, 1, self.mine],
             ["block", 60, 60, 70, 90, 1, None]])})
-        figures = await self.ada.ask("figures", of="preview", **{"from": 0, "to": 200})
+        figures = await self.ada.ask("figures", of=["before", "after"], **{"from": 0, "to": 200})
         self.assertEqual(self.seen(await self.picture("before")), self.seen(await self.picture(self.ada.at)))
         await self.figures_are(figures, "before", self.ada.at, 0)
         after = await self.picture("after")
@@ -683,7 +695,7 @@ class Previews(Case):
             await self.ada.ask("send", name="shared")
 
     async def test_the_own_road_is_compared_with_the_shared_one(self) -> None:
-        figures = await self.ada.ask("figures", of="mine", **{"from": 0, "to": 200})
+        figures = await self.ada.ask("figures", of=mine(1), **{"from": 0, "to": 200})
         for name, at in (("before", "shared"), ("after", self.ada.at)):
             await self.ada.ask("advance", at=at, to=200)
             await self.figures_are(figures, name, at, 0)
@@ -695,7 +707,7 @@ class Previews(Case):
 
     async def test_figures_of_a_preview_need_a_preview(self) -> None:
         for verb, fields in (("cells", {"at": "after", "step": 0}), ("advance", {"at": "before", "to": 5}),
-                             ("figures", {"at": self.ada.at, "of": "preview", "from": 0, "to": 5})):
+                             ("figures", {"at": self.ada.at, "of": ["before", "after"], "from": 0, "to": 5})):
             self.assertEqual((await self.ada.reply(verb, **fields))["refused"], "NoPreview")
         await self.ada.ask("preview", what="share")
         self.assertEqual((await self.ada.ask("cells", at="after", step=0))["cells"], "." * 120)
@@ -714,7 +726,7 @@ class Previews(Case):
             await put_layer(ada, "1", ["block", 50, 50, 60, 200, 1])  # its jam reaches both inlets
             await put_layer(ada, "2", ["inflow", 1, 1, 100, 250, 65_536])
             await put_layer(ada, "3", ["inflow", 0, 0, 200, None, 0])
-            said: Any = await ada.ask("figures", of="mine", **{"from": 30, "to": 290})
+            said: Any = await ada.ask("figures", of=mine(1), **{"from": 30, "to": 290})
             self.assertEqual(at_inlets(said, "before", "demand"), [(290 - 30) / 2, 0])
             self.assertEqual(at_inlets(said, "before", "lost"), [0, 0])
             self.assertEqual(at_inlets(said, "after", "demand"), [(200 - 30) / 2, (250 - 100) / 2])

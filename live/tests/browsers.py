@@ -199,7 +199,7 @@ class Tab:
         seen = self.driver.execute_script(TRUTH)
         console = [entry["message"] for entry in self.driver.get_log("browser")]
         saved = sorted(path.name for path in self.downloads.iterdir())
-        return "\n".join([*seen, f"console: {console}", f"saved: {saved}"])
+        return "\n".join([*map(str, seen), f"console: {console}", f"saved: {saved}"])
 
     def settled(self) -> None:
         """Wait until everything is confirmed, loaded and drawn, in the figures too, and stays so for a moment."""

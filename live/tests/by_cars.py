@@ -7,7 +7,7 @@ import random
 from typing import Any
 
 from faulty import Here, soon
-from figures_told import at_inlets, value
+from figures_told import SIDES, at_inlets, mine, of_side, value
 from raw_figures import LONG, STEPS, Run, compare, figures_of, random_plan, random_shapes
 from running import ALL, Case
 from server.background.settings import Settings
@@ -37,10 +37,10 @@ class ByCars(Case):
             key, of = row["figure"]["key"], row["figure"]["of"]
             if key in ("demand", "demand at", "lost", "lost at"):
                 continue
-            for side, wanted in zip(("before", "after", "difference"), known.pop((key, of[0], of[1]))):
-                self.near(row[side], [wanted, None], (*what, row["figure"]["title"], side))
+            for side, wanted in zip(SIDES, known.pop((key, of[0], of[1]))):
+                self.near(of_side(row, side), [wanted, None], (*what, row["figure"]["title"], side))
         self.assertEqual(known, {}, what)
-        self.near(said["entries"], {"before": before.by_entry(first, last), "after": after.by_entry(first, last)}, what)
+        self.near(said["entries"], [run.by_entry(first, last) for run in (before, after)], what)
         for side, run in (("before", before), ("after", after)):
             for inlet, steps in enumerate(run.came):
                 lost = at_inlets(said, side, "lost")[inlet]
@@ -54,14 +54,14 @@ class ByCars(Case):
     async def runs(self, here: Here, seat: int) -> list[Run]:
         """Build the shared road and the own road from the edits that the laboratory reports."""
         edits = [(await here.ask(seat, "scenario", at=at))["edits"] for at in ("shared", f"seat{seat}")]
-        return [Run(here.plan, one, STEPS) for one in edits]
+        return [Run(here.plan, one, STEPS, here.origin) for one in edits]
 
     lost = 0  # how often cars were lost
 
     async def test_each_figure_equals_that_of_the_cars(self) -> None:
         for number in range(ROADS):
             chance = random.Random(number)
-            async with Here(plan=random_plan(chance)) as here:
+            async with Here(plan=random_plan(chance), origin=number % 3 * 20) as here:
                 seat, = await here.join("Ada")
                 await here.lab.road_clock.set_clock(to=STEPS)
                 shapes = random_shapes(here.plan, chance)
@@ -75,21 +75,23 @@ class ByCars(Case):
                 windows = [whole, sorted(chance.sample(range(STEPS), 2)), [chance.randrange(STEPS - 60)] * 2]
                 windows[2][1] += 60
                 for first, last in windows:
-                    said = await soon(here.ask(seat, "figures", of="mine", **{"from": first, "to": last}))
+                    said = await soon(here.ask(seat, "figures", of=mine(seat), **{"from": first, "to": last}))
                     self.are(said, before, after, first, last, (number, first, last))
                     if [first, last] == whole:
                         self.demand_is(said, before, after, number)
                 for step in (300, 40):  # late edits, the second one further back
                     await here.ask(seat, "gesture", key=f"late {step}", shape=["block", 8, 8, step, step + 40, 1])
                     before, after = await self.runs(here, seat)
-                    said = await soon(here.ask(seat, "figures", of="mine", **{"from": 0, "to": STEPS}))
+                    said = await soon(here.ask(seat, "figures", of=mine(seat), **{"from": 0, "to": STEPS}))
                     self.are(said, before, after, 0, STEPS, (number, "late", step))
                 for at, run in (("shared", before), (f"seat{seat}", after)):
                     await here.ask(seat, "advance", at=at, to=STEPS)
                     flows = (await here.ask(seat, "counts", at=at, **{"from": 0, "to": STEPS}))["flows"]
                     self.near(flows, [run.detector(one, 0, STEPS) for one in range(3)], (number, at))
-                    sums = (await here.ask(seat, "sums", at=at, **{"from": 60, "to": 420}))["sums"]
-                    self.assertAlmostEqual(sum(sums) / 3_600, run.hours(60, 420), 9)
+                    sums = await here.ask(seat, "sums", at=at, **{"from": 60, "to": 420})
+                    self.assertAlmostEqual(sum(sums["sums"]) / 3_600, run.hours(60, 420), 9)
+                    minutes = [round(3_600 * run.approach_hours(first, first + 60)) for first in range(60, 420, 60)] if here.origin else None
+                    self.assertEqual(sums.get("approach"), minutes)
 
         self.assertGreater(self.lost, 0)
 
@@ -124,14 +126,14 @@ class ByCars(Case):
                 await here.lab.road_clock.set_clock(to=steps)
                 for place, shape in enumerate(shapes):
                     await here.ask(seat, "gesture", key=f"{place}", shape=shape)
-                said = await soon(here.ask(seat, "figures", of="mine", **{"from": 0, "to": steps}))
+                said = await soon(here.ask(seat, "figures", of=mine(seat), **{"from": 0, "to": steps}))
                 demand, came, lost = (at_inlets(said, "after", key)[0] for key in ("demand", "admitted", "lost"))
                 self.assertAlmostEqual(demand, asked, delta=0.01 * wanted, msg=str(shapes))
                 self.assertTrue(least <= lost <= most, (shapes, lost, least, most))
                 self.assertAlmostEqual(lost, demand - came, delta=scatter + 2)
                 self.assertEqual(at_inlets(said, "before", "lost"), [0, 0])
                 hours, = (row for row in said["figures"] if row["figure"]["key"] == "hours")
-                self.assertEqual(hours["bound"], "at least" if lost else "")
+                self.assertEqual(hours["bounds"], ["at least" if lost else ""])
                 self.assertEqual(f"Cars that cannot enter are lost: {lost:,.0f} at km 0 (mine)" in hours["words"], lost > 0, hours["words"])
 
     async def test_a_ramp_that_finds_no_place_loses_its_demand_and_one_that_is_switched_off_does_not(self) -> None:
@@ -144,7 +146,7 @@ class ByCars(Case):
                 await here.lab.road_clock.set_clock(to=steps)
                 for place, shape in enumerate(shapes):
                     await here.ask(seat, "gesture", key=f"{place}", shape=shape)
-                said = await soon(here.ask(seat, "figures", of="mine", **{"from": 600, "to": steps}))
+                said = await soon(here.ask(seat, "figures", of=mine(seat), **{"from": 600, "to": steps}))
                 asked, before = (at_inlets(said, side, "demand")[1] for side in ("after", "before"))
                 lost = at_inlets(said, "after", "lost")[1]
                 if share:
@@ -163,7 +165,7 @@ class ByCars(Case):
                 for place, shape in enumerate(random_shapes(plan, chance)):
                     await here.ask(seat, "gesture", key=f"{place}", shape=shape)
                 here.keeper.settings = Settings(days=3)
-                said = await soon(here.ask(seat, "days", of="mine", **{"from": 60, "to": 400}))
+                said = await soon(here.ask(seat, "days", of=mine(seat), **{"from": 60, "to": 400}))
                 edits = [(await here.ask(seat, "scenario", at=at))["edits"] for at in ("shared", f"seat{seat}")]
                 days = [[Run({**plan, "words": plan["words"] + day}, one, STEPS) for one in edits] for day in range(3)]
                 for side, place in (("before", 0), ("after", 1)):

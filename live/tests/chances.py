@@ -7,13 +7,20 @@ import json
 import os
 import statistics
 from pathlib import Path
-from typing import Any
+from typing import Any, Iterator, Sequence, cast
+from unittest import mock
+
+from zegdrut.figures import Value
+from zegdrut.figures.table import FREEWAY
+from zegdrut.program.wire import PlanLine
 
 from faulty import Here, soon
-from figures_told import value
+from figures_told import SIDES, mine, of_side, value
 from running import SMALL, Case, new_folder, program, until
 from server.tabs.refusals import Refused
 from server.background.settings import Settings
+from server.figures import comparison
+from server.figures.figures import list_figures
 
 # Student's t for 95 %, by degrees of freedom, from a printed table.
 T_OF = {1: 12.706205, 2: 4.302653}
@@ -63,7 +70,7 @@ class Days(Case):
             async with Here(plan={**SMALL, "words": words}) as here:
                 seat, = await here.join("Ada")
                 await self.change(here, seat)
-                found.append(await here.ask(seat, "figures", of="mine", **SPAN))
+                found.append(await here.ask(seat, "figures", of=mine(seat), **SPAN))
         return found
 
     def are_means(self, said: Any, of_days: list[Any]) -> None:
@@ -71,23 +78,23 @@ class Days(Case):
         days = len(of_days)
         self.assertEqual([row["figure"] for row in said["figures"]], [row["figure"] for row in of_days[0]["figures"]])
         for place, row in enumerate(said["figures"]):
-            for side in ("before", "after", "difference"):
-                values = [day["figures"][place][side][0] for day in of_days]
+            for side in SIDES:
+                values = [of_side(day["figures"][place], side)[0] for day in of_days]
                 what = row["figure"]["title"], side
                 if None in values:
-                    self.assertEqual(row[side], [None, None], what)
+                    self.assertEqual(of_side(row, side), [None, None], what)
                     continue
-                self.assertAlmostEqual(row[side][0], statistics.mean(values), 6, what)
+                self.assertAlmostEqual(of_side(row, side)[0], statistics.mean(values), 6, what)
                 if days == 1:
-                    self.assertIsNone(row[side][1], what)
+                    self.assertIsNone(of_side(row, side)[1], what)
                 else:
-                    self.assertAlmostEqual(row[side][1], T_OF[days - 1] * statistics.stdev(values) / days ** 0.5, 4, what)
+                    self.assertAlmostEqual(of_side(row, side)[1], T_OF[days - 1] * statistics.stdev(values) / days ** 0.5, 4, what)
 
     async def test_means_and_intervals_equal_those_of_the_days(self) -> None:
         of_days = await self.of_days(3)
         await self.change(self.here, self.ada)
         self.over(3)
-        said = await soon(self.here.ask(self.ada, "days", of="mine", **SPAN))
+        said = await soon(self.here.ask(self.ada, "days", of=mine(self.ada), **SPAN))
         self.assertEqual((said["from"], said["to"], said["days"], said["stopped"]), (20, 200, 3, False))
         lost = [[value(day, side, "lost") for day in of_days] for side in ("before", "after")]
         self.assertGreater(sum(lost[1]), sum(lost[0]))
@@ -101,7 +108,7 @@ class Days(Case):
             self.here.keeper.path, _ = self.program_that(PROGRAM_OF_DAYS.format(days=days, program=program()))
             self.over(4)
             self.heard.clear()
-            question = asyncio.ensure_future(self.here.ask(self.ada, "days", of="mine", **SPAN))
+            question = asyncio.ensure_future(self.here.ask(self.ada, "days", of=mine(self.ada), **SPAN))
 
             async def done() -> bool:
                 return (self.ada, days, 4) in self.heard
@@ -111,20 +118,33 @@ class Days(Case):
             self.assertEqual((said["days"], said["stopped"]), (days, True))
             self.are_means(said, await self.of_days(days))
 
+    def test_days_count_in_the_order_of_their_seeds(self) -> None:
+        """The second day ends first, and the first one is 1, the second 2, the third 4."""
+        figures = list_figures(cast(PlanLine, SMALL), FREEWAY)
+
+        def ended(_make: object, seeds: Sequence[int]) -> Iterator[tuple[int, list[list[Value]]]]:
+            for place in (1, 0, 2):
+                yield place, [[Value(2.0 ** place, 2.0 ** place, 0.0)] * len(figures)]
+        road = {"name": "a", "edits": [], "demands": [[(0, 500.0)] for _ in SMALL["inlets"]]}
+        compared: Any = {"plan": SMALL, "roads": [road, road], "first": 20, "last": 200, "program": str(program()), "origin": 0}
+        with mock.patch("server.figures.comparison.iterate_days", ended):
+            found = [(said["done"], said["figures"][0]["values"][0][0]) for said in comparison.simulate_days({"compared": compared, "days": 3})]
+        self.assertEqual(found, [(1, 1.0), (2, 1.5), (3, 7 / 3)])
+
     async def test_a_preview_is_compared_too_and_nothing_is_written(self) -> None:
         await self.change(self.here, self.ada)
         await self.here.ask(self.ada, "preview", what="share")
         entries = self.here.entries()
         self.over(2)
-        preview, mine = [await soon(self.here.ask(self.ada, "days", of=of, **SPAN)) for of in ("preview", "mine")]
-        self.assertEqual(json.dumps(preview), json.dumps(mine).replace("(mine)", "(after)"))  # what their words call the second road
+        preview, own = [await soon(self.here.ask(self.ada, "days", of=of, **SPAN)) for of in (["before", "after"], mine(self.ada))]
+        self.assertEqual(json.dumps(preview), json.dumps(own).replace("(mine)", "(after)"))  # what their words call the second road
         self.assertEqual(self.here.entries(), entries)
 
     async def test_a_road_with_fixed_random_numbers_has_only_one_day(self) -> None:
         async with Here(plan={**SMALL, "words": "steady"}) as here:
             seat, = await here.join("Ada")
             with self.assertRaises(Refused) as caught:
-                await here.ask(seat, "days", of="mine", **SPAN)
+                await here.ask(seat, "days", of=mine(seat), **SPAN)
         self.assertIn("fixed random numbers (no seed), so all days are the same", caught.exception.why)
 
     async def test_its_programs_have_low_priority_and_leave_a_processor_free(self) -> None:
@@ -132,22 +152,22 @@ class Days(Case):
         self.here.keeper.path, wrote = self.program_that(
             f'echo "$(nice) $(grep Cpus_allowed_list /proc/self/status | cut -f2)" >> $WROTE; exec {program()}')
         self.over(2)
-        await soon(self.here.ask(self.ada, "days", of="mine", **SPAN))
+        await soon(self.here.ask(self.ada, "days", of=mine(self.ada), **SPAN))
         niceness, places = zip(*(line.split() for line in wrote.read_text().splitlines()))
         self.assertEqual(set(niceness), {str(os.nice(0) + 10)})
-        mine = os.sched_getaffinity(0)
+        own = os.sched_getaffinity(0)
         allowed = set().union(*(range(int(part.split("-")[0]), int(part.split("-")[-1]) + 1)
                                 for part in places[0].split(",")))
-        self.assertEqual(allowed, mine - {min(mine)} if len(mine) > 1 else mine)
+        self.assertEqual(allowed, own - {min(own)} if len(own) > 1 else own)
         wrote.unlink()  # and so do the figures of one day
-        await soon(self.here.ask(self.ada, "figures", of="mine", **SPAN))
+        await soon(self.here.ask(self.ada, "figures", of=mine(self.ada), **SPAN))
         self.assertEqual({line.split()[0] for line in wrote.read_text().splitlines()}, {str(os.nice(0) + 5)})
         self.here.keeper.path = before
 
     async def asks(self, seat: int) -> tuple[asyncio.Future[Any], list[int]]:
         """Ask a question whose program never answers. Return the task of asking, and the processes that run for it."""
         self.here.keeper.path, wrote = self.program_that("echo $$ >> $WROTE; exec sleep 1000")
-        question = asyncio.ensure_future(self.here.ask(seat, "days", of="mine", **SPAN))
+        question = asyncio.ensure_future(self.here.ask(seat, "days", of=mine(seat), **SPAN))
 
         async def begun() -> bool:
             return wrote.exists() and wrote.read_text().endswith("\n")
@@ -166,7 +186,7 @@ class Days(Case):
     async def test_one_question_at_a_time_and_the_refusal_names_who_asks(self) -> None:
         question, processes = await self.asks(self.ada)
         with self.assertRaises(Refused) as caught:
-            await soon(self.here.ask(self.ben, "days", of="mine", **SPAN))
+            await soon(self.here.ask(self.ben, "days", of=mine(self.ben), **SPAN))
         self.assertEqual(caught.exception.text, "Busy")
         self.assertIn("20 days are being simulated for Ada (0 done)", caught.exception.why)
         self.assertEqual(await soon(self.here.ask(self.ben, "days", of=None)), {"stopped": False})
@@ -184,7 +204,7 @@ class Days(Case):
         await self.ended(question, processes)
         self.here.keeper.path = str(program())
         self.over(2)  # then somebody else may ask
-        await soon(self.here.ask(self.ben, "days", of="mine", **SPAN))
+        await soon(self.here.ask(self.ben, "days", of=mine(self.ben), **SPAN))
 
 
 class Leaving(Case):
@@ -194,7 +214,7 @@ class Leaving(Case):
             async with server.seat("Ada") as ada:
                 await ada.say("clock", to=3_600)
                 await ben.ask("advance", to=3_600)
-                asked = asyncio.ensure_future(ada.reply("days", at=ada.at, of="mine", **{"from": 0, "to": 3_600}))
+                asked = asyncio.ensure_future(ada.reply("days", at=ada.at, of=mine(2), **{"from": 0, "to": 3_600}))
                 await ada.reply("ping")  # (her questions are begun in their order)
                 busy = await self.refusal(ben)
                 self.assertIn("4 days are being simulated for Ada", busy)
@@ -205,5 +225,5 @@ class Leaving(Case):
             await until(free, "she has left", 20)
 
     async def refusal(self, seat: Any) -> str:
-        said = await seat.reply("days", at=seat.at, of="mine", **{"from": 0, "to": 60})
+        said = await seat.reply("days", at=seat.at, of=["shared", seat.at], **{"from": 0, "to": 60})
         return str(said.get("why", ""))

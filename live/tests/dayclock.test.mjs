@@ -43,6 +43,41 @@ test("times are times of day if the road's clock has a beginning", () => {
   assert.equal(COUNTED.fileText(1830), "03030");
 });
 
+test("times before minute 0 are negative, or times of day of the run", () => {
+  const counted = new DayClock({}, 240);
+  for (const [step, text, file] of [[0, "-0:04:00", "minus0004"], [239, "-0:00:01", "minus00001"], [240, "0:00:00", "0000"], [3900, "1:01:00", "0101"]]) {
+    assert.equal(counted.timeText(step), text);
+    assert.equal(counted.readStep(text), step);
+    assert.equal(counted.fileText(step), file);
+  }
+  assert.equal(counted.spanText(0, 240), "-0:04:00 to 0:00:00");
+  for (const [text, step] of [["-4", 0], ["-0,5", 210], ["20", 1440], ["\u22120:01", 180]]) assert.equal(counted.readStep(text), step);
+  for (const text of ["-5", "-0:04:01"]) assert.ok(Number.isNaN(counted.readStep(text)), text);
+  const morning = new DayClock({begin: 7 * 3600}, 240);
+  for (const [step, text] of [[0, "06:56"], [240, "07:00"], [86_639, "06:59:59 (day 2)"]]) {
+    assert.equal(morning.timeText(step), text);
+    assert.equal(morning.readStep(text), step);
+  }
+  for (const [text, step] of [["-4", 0], ["0", 240], ["6:55", 86_340]]) assert.equal(morning.readStep(text), step);
+  assert.ok(Number.isNaN(morning.readStep("-7:00")));
+  const midnight = new DayClock({begin: 120}, 240);
+  for (const [step, text] of [[0, "23:58 (day 0)"], [120, "00:00"], [240, "00:02"], [86_519, "23:59:59 (day 1)"], [86_520, "00:00 (day 2)"]]) {
+    assert.equal(midnight.timeText(step), text);
+    assert.equal(midnight.readStep(text), step);
+  }
+  assert.equal(midnight.readStep("23:58"), 0);
+  assert.equal(midnight.axisText(0), "23:58");
+});
+
+test("a clock change before minute 0 is known", () => {
+  const spring = new DayClock({begin: 3 * 3600, date: "2026-03-29", zone: "Europe/Berlin"}, 600);
+  for (const [step, text] of [[0, "01:50"], [599, "01:59:59"], [600, "03:00"], [1200, "03:10"]]) {
+    assert.equal(spring.timeText(step), text);
+    assert.equal(spring.readStep(text), step);
+  }
+  assert.ok(spring.isSkipped("2:30"));
+});
+
 // In Berlin clocks go from 2:00 to 3:00 on 29 March 2026, and from 3:00 back to 2:00 on 25 October.
 const SPRING = new DayClock({begin: 1.5 * 3600, date: "2026-03-29", zone: "Europe/Berlin"});
 const AUTUMN = new DayClock({begin: 1.5 * 3600, date: "2026-10-25", zone: "Europe/Berlin"});

@@ -20,6 +20,7 @@ from server.tabs import verbs
 from server.tabs.fields import CommandFields
 from server.journal.keeper import Keeper
 from server.journal.lab import Lab
+from server.roads.new_road import NewRoad
 from server.model.operations import Operation, Stamp
 from server.tabs.questions import Questions
 from server.background.settings import Settings
@@ -81,8 +82,9 @@ class Disk:
 class Here:
     """A laboratory in this process, without sockets."""
 
-    def __init__(self, folder: Path | None = None, plan: dict[str, Any] | None = None, site: str | None = None) -> None:
-        self.folder, self.plan, self.site = folder or new_folder(), plan or SMALL, site
+    def __init__(self, folder: Path | None = None, plan: dict[str, Any] | None = None, site: str | None = None, origin: int = 0) -> None:
+        """`origin` is the cell at km 0."""
+        self.folder, self.plan, self.site, self.origin = folder or new_folder(), plan or SMALL, site, origin
         self.keys: dict[int, str] = {}
 
     async def __aenter__(self) -> Here:
@@ -92,7 +94,7 @@ class Here:
         self.heard: list[Any] = []
         self.keeper.listeners.shared.on(self.heard.append)
         try:
-            await self.lab.open(lambda: {**self.plan}, self.site)
+            await self.lab.open(lambda: NewRoad({**self.plan}, origin=self.origin), self.site)
         except BaseException:
             await self.keeper.close()
             raise

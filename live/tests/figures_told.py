@@ -1,13 +1,26 @@
-"""Find figures in a reply to `figures` or `days`."""
+"""Ask for figures of roads, and find them in a reply to `figures` or `days`."""
 from __future__ import annotations
 
 from typing import Any
 
+SIDES = ("before", "after", "difference")
+"""The first road, the second one, and the second minus the first."""
+
+
+def mine(seat: int) -> list[str]:
+    """Return the names of the shared road and the road of a seat, which is compared with it."""
+    return ["shared", f"seat{seat}"]
+
+
+def of_side(row: Any, side: str) -> list[Any]:
+    """Return the mean of a row, and half the width of its interval."""
+    return list(row["differences"][0] if side == "difference" else row["values"][SIDES.index(side)])
+
 
 def means(said: Any, side: str, key: str, inlet: int | None = None, detector: int | None = None) -> list[float | None]:
-    """Return a figure of a side ("before", "after", "difference"): its mean, and half the width of its interval."""
-    found, = (row[side] for row in said["figures"] if (row["figure"]["key"], list(row["figure"]["of"])) == (key, [inlet, detector]))
-    return list(found)
+    """Return a figure of a side: its mean, and half the width of its interval."""
+    found, = (of_side(row, side) for row in said["figures"] if (row["figure"]["key"], list(row["figure"]["of"])) == (key, [inlet, detector]))
+    return found
 
 
 def value(said: Any, side: str, key: str, inlet: int | None = None, detector: int | None = None) -> Any:
@@ -17,5 +30,5 @@ def value(said: Any, side: str, key: str, inlet: int | None = None, detector: in
 
 def at_inlets(said: Any, side: str, key: str) -> list[Any]:
     """Return "demand", "admitted" or "lost" at each inlet."""
-    found = {row["figure"]["of"][0]: row[side][0] for row in said["figures"] if row["figure"]["key"] == f"{key} at"}
+    found = {row["figure"]["of"][0]: of_side(row, side)[0] for row in said["figures"] if row["figure"]["key"] == f"{key} at"}
     return [found[inlet] for inlet in sorted(found)] or [value(said, side, key)]

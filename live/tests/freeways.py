@@ -12,17 +12,21 @@ from pathlib import Path
 from typing import Any, Mapping, Sequence
 
 from crashes import numbers
-from figures_told import at_inlets, value
+from figures_told import at_inlets, mine, value
 from server.shell.client import Seat
-from server.figures.report import closures_of, demand_text
+from server.figures.figures import sides_of
+from server.figures.report import closures_of, demand_text, facts_of
+from server.roads import new_road
 from running import LIVE, PATIENCE, SMALL, Case, Server, end, new_folder, program, started, until
 from zegdrut.roads.clock import Clock
+from zegdrut.roads.units import METRES, Units
 from zegdrut.program.wire import PlanLine, WrittenEdit
 
 KM: dict[str, Any] = {
     "length": 1.5, "main": 900, "ramps": [], "minutes": 15, "stretch": [0.3, 0.6], "detectors": [0.75],
     "sections": [{"first": 0.9, "last": 1.2, "begin": 4, "end": 8, "limit": 54, "slowing": 0.4}, [1.05, 1.2, 5, 6, 27]],
     "stalled": [[0.6, 9, 10]]}
+UNITS = Units(METRES, 1.0)
 
 
 def value_at(edits: Sequence[WrittenEdit], plan: PlanLine, inlet: int, step: int) -> int:
@@ -74,7 +78,13 @@ class Freeways(Case):
 
     async def test_values_for_the_whole_road_stay_in_force_after_the_last_minute(self) -> None:
         """The file has 15 minutes. Its last demand, its drivers and their slow-to-start chance stay; the server says when a demand
-        that changes over time ends."""
+        that changes over time ends. It also does so if the demand is in a CSV file, which the folder does not have."""
+        folder = new_folder()
+        file = folder / new_road.FREEWAY_FILE
+        for text, end in ((json.dumps({**KM, "main": {"csv": "demand.csv", "column": "main"}}), 120 + 900), (json.dumps({"main": 900, "ramps": []}), None),
+                          ('{"begin": "6:30"}', None), ("[]", None), ('{"ramps": 3}', None), ("{", None)):
+            file.write_text(text, encoding="utf-8")
+            self.assertEqual(new_road.find_profile_end(folder, 120), end, text)
         for main, end in (([["7:00", 900], ["7:05", 600]], 900), (900, None)):
             server = self.server(plan={**KM, "main": main, "start": 0.4, "begin": "07:00"})
             async with server.seat() as ada:
@@ -94,7 +104,7 @@ class Freeways(Case):
         async with server.seat() as ada:
             self.assertEqual(ada.welcome["day"], {"begin": 25_200, "date": "2026-03-02", "zone": "Europe/Berlin"})
             await ada.say("clock", to=900)
-            said = await ada.ask("figures", of="mine", **{"from": 0, "to": 900})
+            said = await ada.ask("figures", of=mine(1), **{"from": 0, "to": 900})
             wanted = [900 * 300 / 3_600 + 600 * 600 / 3_600, 200 * 900 / 3_600]
             self.assertEqual(at_inlets(said, "after", "demand"), wanted)
             edits = (await ada.ask("scenario", at="shared"))["edits"]
@@ -120,7 +130,7 @@ class Freeways(Case):
             plan = ada.welcome["plan"]
             self.assertEqual((plan["zone"], [slow for _, slow in plan["zones"]][:3]), (20, [0, 0, 13_107]))
             await ada.say("clock", to=900)
-            said = await ada.ask("figures", of="mine", **{"from": 0, "to": 900})
+            said = await ada.ask("figures", of=mine(1), **{"from": 0, "to": 900})
             self.assertEqual(at_inlets(said, "after", "demand"), [1_750 / 4, 40 / 4])
             curve = await ada.say("admission", inlet=1, start=None, before=[[0, plan["inlets"][0][1]]])
             (low, less), (high, more) = next((one, other) for one, other in zip(curve["points"], curve["points"][1:])
@@ -135,6 +145,19 @@ class Freeways(Case):
         self.assertEqual(demand_text([(60 * place, 400 + 90 * place % 7) for place in range(50)], clock, 3_000),
                          "400 to 406 cars/h, with the peak from 07:01 on")
 
+    def test_the_facts_of_a_report_have_the_drivers_and_the_places_of_inlets(self) -> None:
+        """The drivers are those of step 0 on the first road. Cars of the main road enter at the head of the approach, if there is one."""
+        starts: list[WrittenEdit] = [("start", zone, 0, zone + 1, 64, 32_768) for zone in range(1, 6)]
+        later: list[WrittenEdit] = [("start", 2, 60, 7, 64, 0), ("start", 0, 0, 8, 64, 6_554)]
+        roads = [{"name": name, "edits": edits, "demands": [[(0, 900.0), (30, 600.0)], [(0, 200.0)]]}
+                 for name, edits in (("a", [*starts, later[0]]), ("b", [*starts, *later]))]
+        for origin, main in ((0, "main road"), (20, "main road at km -0.15")):
+            compared: Any = {"plan": SMALL, "roads": roads, "first": 0, "last": 120, "program": str(program()), "origin": origin}
+            length, *_, first, second = facts_of(compared, sides_of(compared), Clock(25_200))
+            self.assertTrue(length.endswith("one lane, limit 135 km/h, slowing 10%, slow-to-start 50%"), length)
+            self.assertEqual((first, second), (f"{main}: 900 from 07:00, 600 from 07:00:30 cars/h",
+                                               f"on-ramp at km {(40 - origin) * 0.0075:g}: 200 cars/h"))
+
     def test_the_closures_of_a_report_are_the_closed_cells(self) -> None:
         """Draw random closures cell by cell and second by second, and compare them with those of the report; a cell has 7.5 m."""
         chance, last = random.Random(1), 30
@@ -146,13 +169,14 @@ class Freeways(Case):
             edits: dict[tuple[str, int, int], int | None] = {
                 ("block", cell, step): int((cell, step) in closed) for cell in range(13) for step in range(50)
                 if ((cell, step) in closed) != ((cell, step - 1) in closed)}
-            closures = closures_of(edits, last)
+            closures = closures_of(edits, last, UNITS)
             self.assertTrue(all(begin < last for begin, *_ in closures))
             found = [(cell, step) for begin, end, low, high in closures
                      for cell in range(round(low / 0.0075), round(high / 0.0075)) for step in range(begin, min(end, last))]
             self.assertEqual(sorted(found), sorted((cell, step) for cell, step in closed if step < last))
         one: dict[tuple[str, int, int], int | None] = {("block", cell, step): int(step < 9) for cell in (4, 5, 6) for step in (5, 9)}
-        self.assertEqual(closures_of({**one, ("limit", 4, 5): 1}, last), [(5, 9, 0.03, 0.0525)])
+        self.assertEqual(closures_of({**one, ("limit", 4, 5): 1}, last, UNITS), [(5, 9, 0.03, 0.0525)])
+        self.assertEqual(closures_of(one, last, UNITS._replace(origin=8)), [(5, 9, -0.03, -0.0075)])  # before km 0
 
     async def test_each_curve_of_an_inlet_is_measured_once(self) -> None:
         """Ask for one curve twice, from two tabs, and once more after a restart. The folder keeps it in a line of a file, even if
@@ -180,8 +204,8 @@ class Freeways(Case):
         window = {"from": 0, "to": 900}
         main, of_file = 175.0, 59.25
 
-        async def demands(seat: Seat, of: str = "mine") -> list[list[float]]:
-            said = await seat.ask("figures", of=of, **window)
+        async def demands(seat: Seat, *of: str) -> list[list[float]]:
+            said = await seat.ask("figures", of=of or ["shared", seat.at], **window)
             for side in ("before", "after"):
                 asked, came = at_inlets(said, side, "demand"), at_inlets(said, side, "admitted")
                 for lost, one, other in zip(at_inlets(said, side, "lost"), asked, came):
@@ -206,7 +230,7 @@ class Freeways(Case):
             asked = [main, 33.333_333]
             self.assertEqual(await demands(ada), [[main, of_file], asked])
             await ada.ask("preview", what="share")
-            self.assertEqual(await demands(ada, "preview"), [[main, of_file], asked])
+            self.assertEqual(await demands(ada, "before", "after"), [[main, of_file], asked])
             await ada.ask("send", name="shared")
             await ben.ask("take", message="shared")
             self.assertEqual(await demands(ben), 2 * [asked])
@@ -216,9 +240,9 @@ class Freeways(Case):
             self.assertLess(abs(ramp_asked - 200 / 12 - 4_000 / 65_536 * 600), 5)  # what that chance admits, a little less than all
             await ben.ask("undo", key="4", stamp=again["stamp"])
             self.assertEqual(await demands(ben), 2 * [asked])
-            days = await ada.ask("days", of="mine", **window)
+            days = await ada.ask("days", of=mine(1), **window)
             self.assertLess(abs(value(days, "after", "lost")), 30)
-            html = (await ada.ask("report", of="mine", title="A road", works=[], **window))["html"]
+            html = (await ada.ask("report", of=mine(1), title="A road", works=[], **window))["html"]
             self.assertRegex(html, "main road: 900 from 07:00, 600 from 07:05")
             self.assertRegex(html, "<svg[^>]*>.{0,400}Demand.{0,4000}on-ramp at km 0.45")
             self.assertRegex(html, "on-ramp at km 0.45: 200 from 07:00, 100 from 07:05")

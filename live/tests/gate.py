@@ -12,7 +12,7 @@ import itertools
 import json
 import random
 import shutil
-from typing import Any, Iterator
+from typing import Any, Iterator, Sequence
 
 from faulty import Bus, Here
 from running import ALL, Broker, Case, Server, end, until
@@ -55,6 +55,7 @@ class Hand:
         self.sites = [*SITES]  # those that it excludes; some names cannot be those of a site
         self.out: set[str] = set()  # excluded sites
         self.numbers = itertools.count(seed * 1_000_000)
+        self.variants: Sequence[str] = []  # the names that the server has confirmed
 
     def shape(self, faults: float = 0.2) -> list[Any]:
         """Return a shape; as many as `faults` says have a hostile part, or end before they begin."""
@@ -77,7 +78,7 @@ class Hand:
     def commands(self) -> Iterator[Command]:
         """Yield commands without end, each verb as often as the others."""
         while True:
-            for make in (self.put, self.change, self.lift, self.undo, self.again, self.site):
+            for make in (self.put, self.change, self.lift, self.undo, self.again, self.site, self.variant):
                 yield make()
 
     def key(self) -> dict[str, Any]:
@@ -118,6 +119,11 @@ class Hand:
         site = self.draw.choice(self.sites)
         return "site", {**self.key(), "site": site, "out": site not in self.out}
 
+    def variant(self) -> Command:
+        """Name the present road, or remove the name again if it is there."""
+        name = self.draw.choice([*TEXTS[1:], "x", "y", "z"])
+        return "variant", {"name": name, "drop": name in self.variants}
+
 
 class Gate(Case):
     def sites(self, broker: Broker) -> tuple[Server, Server]:
@@ -151,6 +157,7 @@ class Gate(Case):
                         if "refused" not in reply:
                             confirmed[verb] += 1
                             hand.confirm(verb, fields)
+                            hand.variants = reply.get("variants", hand.variants)
                     own = await operations_of(tab, tab.at)
                     await tab.ask("send", name="shared", title=hand.draw.choice(TEXTS))
                     shared = await operations_of(tab, "shared")
@@ -158,6 +165,7 @@ class Gate(Case):
                 seat = first.seat(key=tab.key)
                 async with seat as tab:
                     self.assertIsNone(tab.welcome["trouble"])  # else it would say what cannot be read
+                    self.assertEqual(tab.welcome["variants"], hand.variants)
                     self.assertLessEqual({*await operations_of(tab, tab.at)}, {*own})  # a start forgets some
                     self.assertEqual(await operations_of(tab, "shared"), shared)
                 seat = first.seat(key=tab.key)

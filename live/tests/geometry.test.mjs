@@ -9,7 +9,7 @@ import {cellsOf, edgeNear, isTooLate, nearestIn, objectsIn, objectsNearest, rect
         shapeWithEdge, snap, zonesIn} from "../page/geometry.mjs";
 
 const shapeOf = (...told) => decodeShape(told);
-const PLAN = JSON.parse(readFileSync(new URL("../plan.json", import.meta.url), "utf8"));
+const PLAN = {...JSON.parse(readFileSync(new URL("../plan.json", import.meta.url), "utf8")), origin: 0};
 
 test("each object has its cells", () => {
   assert.deepEqual([PLAN.length, PLAN.zone], [800, 50]);

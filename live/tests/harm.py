@@ -39,6 +39,7 @@ def asked_well(number: int) -> list[tuple[str, dict[str, Any]]]:
         ("diagram", {"from": 0, "to": 20, "every": 1, "cells": [0, 50]}), ("cells", {"step": 5}), ("cars", {"step": 5}),
         ("count", {"detector": 1, "from": 0, "to": 5}), ("counts", {"from": 0, "to": 5, "each": 1}), ("scenario", {}),
         ("sums", {"from": 0, "to": 60}), ("preview", {"what": "share", "stamps": [STAMP]}), ("seats", {}),
+        ("variant", {"name": f"{number % 20}", "drop": False}),
         ("csv", {"what": "counts", "from": 0, "to": 5, "each": 1}), ("clock", {"rate": 0})]
 
 

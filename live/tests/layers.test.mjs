@@ -8,10 +8,10 @@ import {test} from "node:test";
 import {untaken, unshared} from "../page/changes.mjs";
 import {decodeChange, decodeList} from "../page/decoding.mjs";
 import {Layers, countTrapped, isInForce, lostOf, privateOf} from "../page/layers.mjs";
-import {Words, affectedBy, historyOf, listChanges} from "../page/changetexts.mjs";
+import {Words, affectedBy, historyOf, isPlanned, listChanges} from "../page/changetexts.mjs";
 import {store} from "../page/store.mjs";
 
-const PLAN = JSON.parse(readFileSync(new URL("../plan.json", import.meta.url), "utf8"));
+const PLAN = {...JSON.parse(readFileSync(new URL("../plan.json", import.meta.url), "utf8")), origin: 0};
 const [ADA, BEN] = [1, 2];    // seats
 
 /** Return the stamp of an operation of a seat; here the hash says which one. */
@@ -273,4 +273,13 @@ test("a change that would have no effect when taken is described as it was, with
     "Ben: no effect, you changed it at the same time, and that takes precedence"]);
   assert.match(said(67, ben)[1], /no effect, Ada changed it/);
   assert.deepEqual([said(ADA, own), said(ADA)], [null, null]);
+});
+
+test("the demand and the slow-to-start chance of the road's file are planned until somebody changes them", () => {
+  const start = {planned: false, shape: {kind: "start", first: 1, last: 15, from: 0, to: null, value: 9000}, who: "road file", when: 0, operations: [{}]};
+  assert.ok(isPlanned(start) && isPlanned({...start, shape: null, planned: true}));
+  for (const other of [{who: "Ada"}, {when: 1.8e9}, {operations: [{}, {}]}, {shape: null}, {shape: {...start.shape, kind: "slow"}},
+                       {shape: {...start.shape, from: 60}}, {shape: {...start.shape, to: 600}}]) {
+    assert.ok(!isPlanned({...start, ...other}), JSON.stringify(other));
+  }
 });

@@ -240,6 +240,16 @@ class Cases(unittest.TestCase):
         self.assertEqual(choices.shareable(road, shared, made_by(road, ADA)), some)
         self.assertEqual((road.layers, shared.adding(some[:1]).layers.keys()), ({}, {closure.stamp}))
 
+    def test_an_undo_of_what_an_exclusion_removes_is_shared_with_it(self) -> None:
+        """Ada excludes Ben's site and undoes his closure. Either of them removes it. It stays away when the site is included again."""
+        closure = put(1, SHAPE, BEN)
+        shared = EMPTY.adding([closure])
+        some = [exclude(2, BEN.site, True, ADA), undo(3, closure, ADA)]
+        road = shared.adding(some)
+        self.assertEqual(choices.shareable(road, shared, made_by(road, ADA)), some)
+        back = exclude(4, BEN.site, False, CLEO)
+        self.assertEqual((shared.adding([*some, back]).layers, shared.adding([some[0], back]).layers.keys()), ({}, {closure.stamp}))
+
     def test_an_undo_of_what_others_never_had_is_not_shared_and_neither_is_its_redo(self) -> None:
         change_of_it = change(BASE, 2, LINE, None, about=ADA)
         back = undo(3, change_of_it, ADA)

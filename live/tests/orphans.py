@@ -54,8 +54,8 @@ class Orphans(Case):
                 await seat.ask("gesture", key="k", note="", shape=["limit", 1, 1, 60, None, 2])
             await ada.ask("preview", what="share")
             questions: list[tuple[Seat, str, str, dict[str, Any]]] = [
-                (ada, "advance", "before", {"to": 30_000}), (ada, "figures", ada.at, {"of": "mine", "from": 0, "to": 30_000}),
-                (ben, "days", ben.at, {"of": "mine", "from": 0, "to": 7_000}),
+                (ada, "advance", "before", {"to": 30_000}), (ada, "figures", ada.at, {"of": ["shared", ada.at], "from": 0, "to": 30_000}),
+                (ben, "days", ben.at, {"of": ["shared", ben.at], "from": 0, "to": 7_000}),
                 (cleo, "transcript", cleo.at, {"from": 0, "to": 30_000})]
             asked = [asyncio.ensure_future(seat.reply(verb, at=at, **more)) for seat, verb, at, more in questions]
             await until(lambda: self.are(8), "all is under way")

@@ -237,6 +237,24 @@ class OneFreeway(BrowserCase):
         # At the first detector, 375 m downstream of the inlet, some 560 cars fewer pass: 850 an hour for 40 minutes.
         self.assertTrue(-640 <= self.figures(tab, "cars at km 0.375")[2] <= -480)
 
+    def test_a_change_outside_the_period_of_the_figures_is_named(self) -> None:
+        tab, = self.open(FREEWAY)
+        tab.run_an_hour()
+        tab.press("Run an hour")
+        tab.until(lambda: tab.text("clock") == "2:00:00", "the clock")
+        tab.tool("limit")
+        tab.choose("limit", "2")
+        tab.type_and_apply(kmFrom="1.5", kmTo="2.2", timeFrom="1:10", timeTo="1:20")
+        tab.show(3600)
+        self.exact(tab)
+        self.assertEqual(tab.text("period"), "0:00:00 to 1:00:00")
+        self.assertEqual(tab.text("warnings"), "1 of your private changes lies outside 0:00:00 to 1:00:00, the period of these figures. "
+                                               "Choose Show in the list of changes.")
+        tab.show(86400)
+        self.exact(tab)
+        self.assertEqual(tab.text("period"), "0:00:00 to 2:00:00")
+        self.assertEqual(tab.text("warnings"), "")
+
     def test_figures_are_the_same_at_each_zoom_and_before_sharing(self) -> None:
         tab, = self.open(FREEWAY)
         tab.run_an_hour()
@@ -419,7 +437,7 @@ class OneFreeway(BrowserCase):
         tab.run_an_hour()
         refused = tab.driver.execute_async_script("""
             const done = arguments[0];
-            const asked = {at: store.me.at, of: "mine", from: 0, to: 3600};
+            const asked = {at: store.me.at, of: ["shared", store.me.at], from: 0, to: 3600};
             ask({figures: asked});
             ask({figures: asked}, {quiet: ["Busy"]}).then(({refused}) => {
               $("saveTranscript").click();

@@ -43,9 +43,11 @@ def random_shapes(plan: dict[str, Any], chance: random.Random, steps: int = STEP
 class Run:
     """The replies to `cars` at each step: when each car entered, passed each detector and left, and in which rows it was on the road."""
 
-    def __init__(self, plan: dict[str, Any], edits: Sequence[Any], steps: int) -> None:
-        self.plan, self.edits = plan, edits
+    def __init__(self, plan: dict[str, Any], edits: Sequence[Any], steps: int, origin: int = 0) -> None:
+        """`origin` is the cell at km 0."""
+        self.plan, self.edits, self.origin = plan, edits, origin
         self.rows: list[int] = []  # the number of cars in each row
+        self.on_approach: list[int] = []  # those of them before km 0
         self.seen: dict[int, tuple[int, int]] = {}  # by car: the first row that has it, and the last one
         self.left: dict[int, int] = {}  # by car: the step in which it left
         self.passed: list[dict[int, int]] = [{} for _ in plan["detectors"]]  # by car: the step in which it passed
@@ -62,6 +64,7 @@ class Run:
     def read(self, row: int, before: dict[int, int], cars: Sequence[tuple[int, int, int]]) -> dict[int, int]:
         """Read a row, which the step `row` - 1 has made. Return the cell of each car."""
         self.rows.append(len(cars))
+        self.on_approach.append(sum(cell < self.origin for _, cell, _ in cars))
         for number, cell, speed in cars:
             start = before.get(number, self.plan["inlets"][number % 16][0])  # before its step of entry a car is at its inlet
             self.seen[number] = self.seen.get(number, (row, row))[0], row
@@ -109,6 +112,9 @@ class Run:
 
     def hours(self, first: int, last: int) -> float:
         return sum(self.rows[first + 1:last + 1]) / 3_600
+
+    def approach_hours(self, first: int, last: int) -> float:
+        return sum(self.on_approach[first + 1:last + 1]) / 3_600
 
     def admitted(self, first: int, last: int) -> list[float]:
         return [float(sum(number % 16 == inlet and first <= number // 16 < last for number in self.seen))
@@ -191,7 +197,11 @@ def figures_of(before: Run, after: Run, first: int, last: int) -> Wanted:
     def both(key: str, inlet: int | None, detector: int | None, values: list[float | None]) -> None:
         early, late = values
         found[key, inlet, detector] = [early, late, None if early is None or late is None else late - early]
-    both("hours", None, None, [run.hours(first, last) for run in (before, after)])
+    roads = (before, after)
+    both("hours", None, None, [run.hours(first, last) - run.approach_hours(first, last) for run in roads])
+    if before.origin:
+        both("approach hours", None, None, [run.approach_hours(first, last) for run in roads])
+        both("all hours", None, None, [run.hours(first, last) for run in roads])
     both("admitted", None, None, [sum(run.admitted(first, last)) for run in (before, after)])
     places = [*range(len(plan["detectors"])), None]
     for inlet, (cell, _) in enumerate(plan["inlets"]):

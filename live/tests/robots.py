@@ -35,6 +35,9 @@ def random_shape(chance: random.Random) -> list[Any]:
 class Acts(Case):
     """Random acts of a robot, and the check of a road."""
 
+    def setUp(self) -> None:
+        self.named: dict[tuple[str, str], list[Operation]] = {}  # by a seat's road and the name of a variant: what the road was made of
+
     async def act(self, seat: Seat, chance: random.Random, key: str) -> None:
         what = chance.random()
         try:
@@ -44,8 +47,14 @@ class Acts(Case):
                 await self.act_on(seat, chance, key)
             elif what < 0.85:
                 await seat.ask("send", name="shared")
-            elif what < 0.95:
+            elif what < 0.93:
                 await seat.ask("take", message="shared")
+            elif what < 0.96:
+                held: Any = (await seat.ask("operations"))["operations"]
+                name = chance.choice("abc")
+                await seat.ask("variant", name=name)
+                self.named[seat.at, name] = [
+                    read_operation({part: value for part, value in one.items() if part not in ("shared", "seat")}) for one in held]
             else:
                 await seat.ask("advance", to=chance.randrange(LAST + 1))
         except RefusedReply as fault:
@@ -67,9 +76,12 @@ class Acts(Case):
 
     async def compare(self, server: Server, seat: Seat, at: str) -> list[str]:
         """Compare a road with one built from the journal's operations alone. Return its rows."""
+        return await self.compare_with(operations(server.journal(), at), seat, at)
+
+    async def compare_with(self, held: list[Operation], seat: Seat, at: str) -> list[str]:
+        """Compare a road with one built from some operations alone. Return its rows."""
         await seat.ask("advance", at=at, to=LAST)
-        values = {(*thing, step): value for thing, line in ORACLE.painted(operations(server.journal(), at)).items()
-                  for step, value in enumerate(line)}
+        values = {(*thing, step): value for thing, line in ORACLE.painted(held).items() for step, value in enumerate(line)}
         with RoadLab(read_plan_line({**PLAN, "replicas": ["A"]})) as lab:
             for (kind, index, step), value in values.items():
                 if step == 0 or values[kind, index, step - 1] != value:
@@ -99,6 +111,11 @@ class Robots(Acts):
                     seats = [await self.enterAsyncContext(server.seat(key=seat.key)) for seat in seats]
             for at, seat in [("shared", seats[0]), *((seat.at, seat) for seat in seats)]:
                 await self.compare(server, seat, at)
+            for seat in seats:
+                for (at, name), held in self.named.items():
+                    if at == seat.at:
+                        await self.compare_with(held, seat, f"variant:{name}")
+            self.named.clear()
 
     async def test_roads_of_several_sites_equal_those_of_the_shapes(self) -> None:
         for seed in range(SITE_RUNS):

@@ -177,9 +177,10 @@ class Server:
 
     @property
     def program(self) -> int:
-        """Return the process id of its program."""
+        """Return the process id of its oldest program that has not ended. Children that compute figures do not count."""
         path = Path(f"/proc/{self.process.pid}/task/{self.process.pid}/children")
-        return int(path.read_text().split()[0])
+        commands = {int(child): Path(f"/proc/{child}/cmdline").read_bytes() for child in path.read_text().split()}
+        return [child for child, command in commands.items() if command and b"server.figures" not in command][0]
 
     def journal(self) -> list[dict[str, Any]]:
         """Return the entries of its journal, without their checksums."""

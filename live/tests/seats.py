@@ -189,7 +189,7 @@ class Seats(Case):
         now = self.here.keeper.now()
         cases: list[tuple[str, dict[str, Any]]] = [
             ("advance", {"to": now + 36_001}), ("transcript", {"from": 0, "to": now + 36_001}),
-            ("figures", {"of": "mine", "from": 0, "to": now + 36_001})]
+            ("figures", {"of": ["shared", "file"], "from": 0, "to": now + 36_001})]
         for verb, more in cases:
             with self.assertRaisesRegex(Refused, "TooFarAhead"):
                 await self.here.ask(ada, verb, **more)

@@ -21,7 +21,7 @@ function inPreview(answer) {
     roads[name] = Object.assign(new Road(at, 20), {horizon: TO});
   }
   Object.assign(store, {
-    plan: {length: 20, detectors: [10], inlets: [[0, 1]]}, me: {at: "seat1"}, roads, message: ["", false],
+    plan: {length: 20, origin: 0, detectors: [10], inlets: [[0, 1]]}, me: {at: "seat1"}, roads, message: ["", false],
     preview: {takes: false, stamps: [], changes: [], whose: "mine"}, outcome: {layers: {}},
     connection: {isAdmitted: true, ask: async (command) => {
       asked.push(command);

@@ -8,7 +8,7 @@ import {DayClock} from "../page/dayclock.mjs";
 import {decodeChange, decodeShape} from "../page/decoding.mjs";
 import {placesText, shapeText, takenZonesText, thingText, valueText} from "../page/shapetexts.mjs";
 
-const PLAN = JSON.parse(readFileSync(new URL("../plan.json", import.meta.url), "utf8"));
+const PLAN = {...JSON.parse(readFileSync(new URL("../plan.json", import.meta.url), "utf8")), origin: 0};
 // With a chance of 0.588, inlet 0 admits 1,500 cars per hour, and 1,250 from step 600 on. Inlet 1 is being measured.
 const ROAD = {plan: PLAN, day: new DayClock(), curveAt: (inlet, step) => (inlet ? null
   : {points: [[0, 0], [38535, step < 600 ? 1500 : 1250], [65536, 1800]], capacity: 1800})};

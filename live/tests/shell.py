@@ -24,9 +24,11 @@ from server.model.reading import read_operation
 from server.shell.put import InvalidWords, find_chance, find_state, read_change
 from works import admits
 from zegdrut.roads.clock import Clock
+from zegdrut.roads.units import METRES, Units
 from zegdrut.program.wire import WrittenEdit
 
 PLAN = read_plan_line(SMALL)
+UNITS = Units(METRES, 1.0)
 
 
 class Missing(unittest.TestCase):
@@ -59,7 +61,7 @@ class Written(unittest.TestCase):
                  "capacity 900 cars/h, limit 54 km/h, km 0.15 to 0.45, from 07:00 on"),
                 (("detector", "off", "0.5", "06:45"), ["watch", 1, 1, 900, None, 0], "detector off, at km 0.525, from 06:45 on"),
                 (("demand", "1200.5", "0.2", "06:45"), ["inflow", 1, 1, 900, None, 0], "1200.5 cars/h, at km 0.3, from 06:45 on")):
-            written = read_change(words, PLAN, clock)
+            written = read_change(words, PLAN, UNITS, clock)
             self.assertEqual(([*written.shape], written.sentence), (shape, said))
         self.assertEqual(written.demand, 1_200.5)
 
@@ -72,7 +74,7 @@ class Written(unittest.TestCase):
                            (("close", "0", "0.1", "soon"), "BEGIN: 'soon' is not a time"), (("close", "0", "0.1", "9", "8"), "not later than"),
                            ((), "'' is not a kind of change")):
             with self.assertRaisesRegex(InvalidWords, re.escape(why)):
-                read_change(words, PLAN, Clock())
+                read_change(words, PLAN, UNITS, Clock())
 
     def test_a_curve_is_read_back(self) -> None:
         curve: Curve = {"points": [(0, 0.0), (1_000, 100.0), (2_000, 150.0), (3_000, 150.0)], "capacity": 150.0}
@@ -311,8 +313,8 @@ class Shell(Case):
                 (("cron", "withdraw", "5.M47dx6_hno3g_1R9IF57TQ"), 1, "holds no change"), (("cron", "withdraw", "5.x"), 1, "layer"),
                 (("cron", "out", "2"), 1, "site"), (("cron", "numbers"), 2, "unknown command or wrong arguments"),
                 (("cron", "ask", "nonsense"), 2, "write JSON"),
-                (("cron", "ask", '{"scenario":{"at":"cron"}}'), 1, 'here `at` must be "seat1" or "shared"'),
-                (("cron", "ask", '{"take":{"at":"shared","message":"shared"}}'), 1, 'here `at` must be "seat1"'),
+                (("cron", "ask", '{"scenario":{"at":"cron"}}'), 1, 'here a road must be "seat1" or "shared"'),
+                (("cron", "ask", '{"take":{"at":"shared","message":"shared"}}'), 1, 'here a road must be "seat1"'),
                 (("cron", "ask", '{"crowd":{}}'), 1, "there is no command `crowd`"),
                 (("cron",), 2, "NAME of a seat and a command"), (("cron",), 2, "live/road Cron edit limit 11 5400 2"),
                 (("cron", "dance"), 2, "unknown command or wrong arguments")):

@@ -7,9 +7,9 @@ import {test} from "node:test";
 const PAGE = new URL("../page/", import.meta.url);
 const SOURCES = new Map(readdirSync(PAGE).filter((name) => name.endsWith(".mjs")).map((name) =>
   [name.replace(".mjs", ""), readFileSync(new URL(name, PAGE), "utf8")]));
-const ACTIONS = ["changeactions", "comparison", "draft", "filenames", "loader", "measurements", "navigation", "session", "store"];
+const ACTIONS = ["changeactions", "comparison", "draft", "filenames", "loader", "measurements", "navigation", "session", "store", "variants"];
 const PURE = ["assign", "changetexts", "connection", "dayclock", "decoding", "estimates", "geometry", "labels", "layers",
-              "messages", "rows", "shapetexts", "stamps", "storage", "tables", "undo", "units"];
+              "messages", "roadnames", "rows", "shapetexts", "stamps", "storage", "tables", "undo", "units"];
 // The store's watchers, and a cache of painted tiles.
 const KEPT_OUTSIDE = ["store watchers", "picture tilesKept"];
 const importsOf = (source) =>

@@ -3,25 +3,36 @@
 import assert from "node:assert/strict";
 import {test} from "node:test";
 
-import {cellOfKm, chanceOfDemand, demandOfChance, durationText, kmText, limitText, plural, roundedKm, signedText}
-  from "../page/units.mjs";
+import {cellOfKm, chanceOfDemand, demandOfChance, durationText, kmText, lengthText, limitText, plural, rangeText, roundedKm,
+        signedText} from "../page/units.mjs";
+
+const ROAD = {origin: 0};
 
 test("a cell is 7.5 m, and a cell a step is 27 km/h", () => {
-  assert.equal(kmText(400), "3");
-  assert.equal(cellOfKm(3), 400);
-  assert.equal(cellOfKm(0.18), 24);
+  assert.equal(kmText(ROAD, 400), "3");
+  assert.equal(cellOfKm(ROAD, 3), 400);
+  assert.equal(cellOfKm(ROAD, 0.18), 24);
   assert.deepEqual([0, 2, 5].map(limitText), ["0 km/h", "54 km/h", "135 km/h"]);
 });
 
 test("a half of the last digit of km is rounded up", () => {
   for (const [cell, text] of [[467, "3.503"], [1, "0.008"], [3, "0.023"], [400, "3"], [466, "3.495"],
                               [468, "3.51"], [8191, "61.433"]]) {
-    assert.equal(kmText(cell), text);   // 7.5 m each
+    assert.equal(kmText(ROAD, cell), text);   // 7.5 m each
   }
   for (const [km, digits, wanted] of [[1.0005, 3, 1.001], [3.5025, 3, 3.503], [3.5024, 3, 3.502],
                                       [0.015, 2, 0.02], [1.005, 2, 1.01], [61.4325, 2, 61.43]]) {
     assert.equal(roundedKm(km, digits), wanted);
   }
+});
+
+test("places before km 0 are negative, and lengths are not", () => {
+  const road = {origin: 400};
+  assert.deepEqual([0, 399, 400, 867].map((cell) => kmText(road, cell)), ["-3", "-0.007", "0", "3.503"]);
+  assert.deepEqual([-3, -0.3, 0, 0.18].map((km) => cellOfKm(road, km)), [0, 360, 400, 424]);
+  assert.equal(lengthText(600), "4.5");
+  assert.equal(rangeText("-3", "-1.5"), "-3 to -1.5");
+  assert.equal(rangeText("0", "1.5"), "0\u20131.5");
 });
 
 test("durations are in minutes if they are whole minutes", () => {

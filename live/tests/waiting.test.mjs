@@ -12,7 +12,7 @@ import {Layers} from "../page/layers.mjs";
 import {Road} from "../page/rows.mjs";
 import {store} from "../page/store.mjs";
 
-const PLAN = JSON.parse(readFileSync(new URL("../plan.json", import.meta.url), "utf8"));
+const PLAN = {...JSON.parse(readFileSync(new URL("../plan.json", import.meta.url), "utf8")), origin: 0};
 // An inlet that admits as many cars per hour as its chance is in 1/65,536.
 const CURVE = {points: [[0, 0], [2000, 2000]], capacity: 2000};
 const settled = () => new Promise((done) => { setTimeout(done, 5); });

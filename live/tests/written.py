@@ -12,7 +12,7 @@ from typing import Any, Coroutine, Iterator
 from unittest import mock
 
 from faulty import Bus, Disk, Here, soon
-from figures_told import means
+from figures_told import means, mine, of_side
 from running import Case, until
 from server.figures import comparison
 from server.figures.child import Child
@@ -225,13 +225,13 @@ class Written(Case):
             self.release_disk(errno.EIO)
             await asyncio.get_running_loop().run_in_executor(None, is_read.wait)
             asked: list[tuple[str, dict[str, Any]]] = [
-                ("layers", {"at": "shared"}), ("operations", {"at": "shared"}), ("figures", {"of": "mine", "from": 0, "to": 60})]
+                ("layers", {"at": "shared"}), ("operations", {"at": "shared"}), ("figures", {"of": mine(self.ben), "from": 0, "to": 60})]
             looks = [asyncio.create_task(self.here.ask(self.ben, verb, **fields)) for verb, fields in asked]
             await asyncio.sleep(0.2)
             may_read.set()
             layers, gestures, figures_of = [await soon(look) for look in looks]
         self.assertEqual((layers["layers"], gestures["operations"]), ([], []))
-        self.assertEqual(*([row[side] for row in figures_of["figures"]] for side in ("before", "after")))
+        self.assertEqual(*([of_side(row, side) for row in figures_of["figures"]] for side in ("before", "after")))
         self.assertEqual(await self.refused(share), "NotWritten")
 
     async def test_operations_of_another_site_are_announced_only_after_they_are_on_the_disk(self) -> None:
@@ -267,7 +267,7 @@ class Written(Case):
             await self.here.keeper.wait_until_writable()
             share = await self.start(self.here.share(self.ada))
             with counted() as computed:
-                looks = [asyncio.create_task(self.here.ask(self.ben, verb, of="mine", **span)) for verb in ("figures", "days")]
+                looks = [asyncio.create_task(self.here.ask(self.ben, verb, of=mine(self.ben), **span)) for verb in ("figures", "days")]
 
                 async def both() -> bool:
                     return len(computed) == len(looks)
@@ -470,7 +470,7 @@ class Stalled(Case):
             now = self.keeper.now()
             await self.looks(1)
             questions: list[tuple[str, dict[str, Any]]] = [
-                ("layers", {"at": "shared"}), ("preview", {"what": "share"}), ("figures", {"of": "mine", "from": 0, "to": 9})]
+                ("layers", {"at": "shared"}), ("preview", {"what": "share"}), ("figures", {"of": mine(self.ben), "from": 0, "to": 9})]
             for verb, fields in questions:
                 await soon(self.here.ask(self.ben, verb, **fields))
             self.assertEqual((await soon(self.here.take(self.ben)))["size"], 0)

@@ -4,14 +4,17 @@ from __future__ import annotations
 import html
 import re
 from typing import Any
+from unittest import mock
 
 from faulty import Here, soon
-from figures_told import value
+from figures_told import mine, value
 from running import SMALL, Case
+from server.background.settings import Settings
+from server.figures import report
 from server.tabs.refusals import Refused
 
 SPAN: dict[str, Any] = {"from": 60, "to": 600}
-ASKED = {"of": "mine", "title": "The road of <Ada>: 0:01:00 to 0:10:00", "works": ["Closed 0.45–0.458 km, 0:02:00–0:05:00", "a & b"]}
+ASKED: dict[str, Any] = {"of": mine(1), "title": "The road of <Ada>: 0:01:00 to 0:10:00", "works": ["Closed 0.45–0.458 km, 0:02:00–0:05:00", "a & b"]}
 
 
 def rows_of(page: str) -> dict[str, list[str]]:
@@ -28,27 +31,65 @@ class Reports(Case):
             await here.ask(seat, "gesture", key="1", shape=["block", 60, 60, 120, 300, 1])
             await here.ask(seat, "gesture", key="2", shape=["watch", 2, 2, 200, 400, 0])
             page = (await soon(here.ask(seat, "report", **ASKED, **SPAN)))["html"]
-            figures = await soon(here.ask(seat, "figures", of="mine", **SPAN))
+            figures = await soon(here.ask(seat, "figures", of=mine(seat), **SPAN))
             rows = rows_of(page)
             for name, digits, values in (
                     ("vehicle hours on the road", 2, [value(figures, side, "hours") for side in ("before", "after")]),
                     ("lost demand, cars", 0, [value(figures, side, "lost") for side in ("before", "after")]),
                     ("km 0.825: cars/h", 0, [value(figures, side, "flow", None, 2) for side in ("before", "after")])):
-                shared, _, mine, _, *_ = rows[name]
-                self.assertEqual([shared, mine], [f"{one:,.{digits}f}" for one in values], name)
+                shared, _, own, _, *_ = rows[name]
+                self.assertEqual([shared, own], [f"{one:,.{digits}f}" for one in values], name)
             hours, = (row for row in figures["figures"] if row["figure"]["key"] == "hours")
-            self.assertIn(f"vehicle hours on the road ({hours['bound']})", page)
+            self.assertIn(f"vehicle hours on the road ({hours['bounds'][0]})", page)
             self.assertIn("Cars that cannot enter are lost: ", page)
             self.assertEqual(rows["delay, vehicle hours"][4], f"{value(figures, 'difference', 'delay'):.2f}")
             self.assertEqual(value(figures, "after", "on", None, 2), 340)
+            with self.assertRaises(Refused) as caught:
+                await here.ask(seat, "report", **ASKED, **SPAN, days=2)
+            self.assertEqual(caught.exception.text, "OneDay")
 
-    async def test_a_report_is_self_contained_and_escapes_what_users_wrote(self) -> None:
+    def test_a_report_that_would_take_too_long_says_what_fits(self) -> None:
+        """20 days of two roads are 40 runs: 14 rounds of 3 processors. In 10 minutes there are 12 rounds of 50 s, which are 36 runs. There is no
+        round of 700 s."""
+        with mock.patch("server.figures.report.count_processors", return_value=3):
+            report.check_time(120, 8, 40, 20)
+            with self.assertRaises(report.TakesTooLong) as caught:
+                report.check_time(150, 8, 40, 20)
+            self.assertIn("over 20 days would take about 12 minutes, and may take 10: choose a shorter period, or at most 18 days", str(caught.exception))
+            with self.assertRaises(report.TakesTooLong) as caught:
+                report.check_time(700, 3, 10, 5)
+            self.assertIn("choose a shorter period. On the page", str(caught.exception))
+
+    async def test_a_report_that_would_take_too_long_is_refused_at_once(self) -> None:
+        asked: list[Any] = []
+
+        async def ask(index: int, question: Any, path: str) -> Any:
+            asked.append(question)
+            with mock.patch("server.figures.report.MOST_SECONDS", 0.001):
+                return [*report.make_page(question)][-1]
         async with Here() as here:
+            seat, = await here.join("Ada")
+            await here.lab.road_clock.set_clock(to=600)
+            with mock.patch.object(here.questions._reports, "ask_in_turn", ask), self.assertRaises(Refused) as caught:
+                await here.ask(seat, "report", **ASKED, **SPAN)
+        self.assertEqual((caught.exception.text, asked[0]["days"]), ("TooLong", 5))
+        self.assertIn("choose a shorter period", caught.exception.why)
+
+    async def test_a_report_is_self_contained_and_has_the_days_of_the_comparison(self) -> None:
+        async with Here() as here:
+            here.keeper.settings = Settings(days=4)
             seat, = await here.join("<b>")
             await here.lab.road_clock.set_clock(to=600)
             await here.ask(seat, "gesture", key="1", shape=["block", 60, 60, 120, 300, 1])
-            page = (await soon(here.ask(seat, "report", **ASKED, **SPAN)))["html"]
-        for wanted in ("<h1>The road of &lt;Ada&gt;: 0:01:00 to 0:10:00</h1>", "<li>a &amp; b</li>", "@page { size: A4", "Seeds 1 to 5",
+            said = await soon(here.ask(seat, "report", **ASKED, **SPAN, days=4))
+            days = await soon(here.ask(seat, "days", of=mine(seat), **SPAN))
+        page = said["html"]
+        self.assertEqual(said["days"], 4)
+        for name, key, digits in (("vehicle hours on the road", "hours", 2), ("lost demand, cars", "lost", 0)):
+            row, = (one for one in days["figures"] if one["figure"]["key"] == key)
+            means = [f"{part:,.{digits}f}" for one in (*row["values"], *row["differences"]) for part in one]
+            self.assertEqual(rows_of(page)[name][:6], means, name)
+        for wanted in ("<h1>The road of &lt;Ada&gt;: 0:01:00 to 0:10:00</h1>", "<li>a &amp; b</li>", "@page { size: A4", "Seeds 1 to 4",
                        "main road: ", "on-ramp at km 0.3: ", "0.9 km, one lane, limit 135 km/h, slowing 10%", "off-ramps, junctions and trucks"):
             self.assertIn(wanted, page)
         self.assertNotIn("<b>", page)
@@ -58,8 +99,11 @@ class Reports(Case):
         async with Here() as here:
             seat, = await here.join("Ada")
             cases: list[tuple[dict[str, Any], str]] = [
-                ({"works": "a"}, "at most 200 strings"), ({"works": [1]}, "at most 200 strings"), ({"of": "all"}, '"preview" or'),
-                ({"to": 5}, "must be below")]
+                ({"works": "a"}, "at most 200 strings"), ({"works": [1]}, "at most 200 strings"), ({"of": "all"}, "at most 4 strings"),
+                ({"of": ["shared"]}, "2 to 4 different roads"), ({"of": ["shared", "file", "shared"]}, "2 to 4 different roads"),
+                ({"of": ["shared", "mine"]}, "here a road must be "), ({"of": ["shared", "variant:noon"]}, "no variant of the name noon"),
+                ({"to": 5}, "must be below"), ({"days": 0}, "`days` must be 1 to 20, not 0"), ({"days": 21}, "`days` must be 1 to 20, not 21"),
+                ({"days": None}, "`days`")]
             for wrong, said in cases:
                 with self.assertRaises(Refused) as caught:
                     await here.ask(seat, "report", **{**ASKED, **SPAN, **wrong})
