@@ -264,9 +264,10 @@ class Tab:
         return sorted(self.saved(file), key=is_shared)
 
     def saved(self, file: str) -> list[Path]:
-        """Return the saved files whose names begin and end as this one's."""
+        """Return the saved files whose names begin and end as this one's. (Chromium first makes an empty file of the name, and then
+        puts the complete file in its place.)"""
         stem, _, ending = file.rpartition(".")
-        return [*self.downloads.glob(f"{stem}-*.{ending}")]
+        return [path for path in self.downloads.glob(f"{stem}-*.{ending}") if path.stat().st_size]
 
     def tool(self, kind: str) -> None:
         self.script("document.querySelector(`input[name=tool][value=${arguments[0]}]`).click()", kind)
