@@ -106,8 +106,8 @@ impl<S: BuildHasher + Copy> Laboratory<S> {
     ///
     /// # Errors
     ///
-    /// `WorkersGone` if the crew returned it, or if `crowds` returned it for a crowd that is not refused. `OutOfMemory`
-    /// if an allocation failed, or `crowds` returned it. The laboratory is then unchanged.
+    /// For a crowd that is not refused, the fault that `crowds` returned. For any other command `WorkersGone` if the
+    /// crew returned it, else `OutOfMemory` if an allocation failed. The laboratory is then unchanged.
     pub fn answer<C: Crew, K: Crowds>(
         &mut self,
         alloc: Global,
@@ -122,6 +122,8 @@ impl<S: BuildHasher + Copy> Laboratory<S> {
         ensures unchanged { OnErr result (self.new ≡ self.old) }
         ensures gone { C.times_gone crew.new ≡ gone_after_command result
             (is_gathered self.old.world.plan (command_view command)) (C.times_gone crew.old) }
+        ensures crowd_fault { is_gathered self.old.world.plan (command_view command) ≡ true
+            → IfErr result (λ fault. K.may_fail_with crowds.now fault) }
     {
         self.answer_by_name(alloc, command, crew, crowds)
     }
@@ -142,6 +144,7 @@ impl<S: BuildHasher + Copy> Laboratory<S> {
         ensures winners { laboratory_of_winners self.now ≡ self.now }
         ensures no_crew { (n : ℕ) → gone_after_command result
             (is_none (laboratory.crowd_refusal self.now.world.plan (shares_view shares.now) to)) n ≡ n }
+        ensures crowd_fault { IfErr result (λ fault. K.may_fail_with crowds.now fault) }
     {
         let plan = self.world.plan();
         if let Some(refusal) = crowd_refusal(plan, shares, to) {
@@ -168,7 +171,7 @@ impl<S: BuildHasher + Copy> Laboratory<S> {
         crowds: &K,
     ) -> Result<Answer, CrewFault>
         requires { HasFewWrites MOST_CROWD_WRITES (command_view command) }
-        ensures { IsAnswered (is_gathered self.old.world.plan (command_view command))
+        ensures { IsAnswered (is_gathered self.old.world.plan (command_view command)) (K.may_fail_with crowds.now)
             (laboratory.outcome self.old (command_view command)) result self.old self.new
             (C.times_gone crew.old) (C.times_gone crew.new) }
     {
@@ -202,7 +205,7 @@ impl<S: BuildHasher + Copy> Laboratory<S> {
     ) -> Result<Answer, CrewFault>
         requires there { laboratory.crowd_of (command_view command) ≡ None → at < length self.old.replica_names }
         requires shares { HasFewWrites MOST_CROWD_WRITES (command_view command) }
-        ensures { IsAnswered (is_gathered self.old.world.plan (command_view command))
+        ensures { IsAnswered (is_gathered self.old.world.plan (command_view command)) (K.may_fail_with crowds.now)
             (outcome_at self.old at (command_view command)) result self.old self.new
             (C.times_gone crew.old) (C.times_gone crew.new) }
     {

@@ -1,5 +1,7 @@
 //! Crowds on threads, behind the trait `Crowds`.
 
+ghost use Rattle.std.specs.Prelude.{⊤};
+
 use crate::gathering::crowd;
 use road_plan::Plan;
 use road_replica::{Crowd, Crowds};
@@ -23,6 +25,9 @@ impl<R: Threads + Wait> OnThreads<R> {
 }
 
 impl<R: Threads + Wait> Crowds for OnThreads<R> {
+    // The contract of `crowd` excludes neither fault.
+    ghost may_fail_with = { λ _ _. ⊤ };
+
     fn gather(
         &self,
         alloc: Global,

@@ -1,11 +1,12 @@
 //! Crowds: shares of edits, one for each session of a replica, and the result of their writes.
 
-ghost use Rattle.std.specs.Prelude.{◌≡◌, ◌<◌, ◌≤◌, ◌-◌, ◌^◌, min, IfOk, None, length, string_bytes};
+ghost use Rattle.std.specs.Prelude.{◌≡◌, ◌<◌, ◌≤◌, ◌-◌, ◌^◌, min, IfErr, IfOk, None, length, string_bytes};
 ghost use Rattle.std.specs.Arc.{arc_value};
 ghost use Rattle.lattice_core.specs.Sets.{items};
 ghost use Rattle.road_plan.specs.declared.limits.TheConstants.{MOST_SESSIONS};
 ghost use Rattle.road_sheet.specs.Shown.{row_at};
 ghost use Rattle.road_replica.specs.Crowds.{crowd_winners, crowd_writes, shares_fault, shares_of};
+ghost use Rattle.road_workers.specs.declared.faults.CrewFault.{CrewFault};
 
 use road_plan::Plan;
 use road_scenario::Edit;
@@ -29,6 +30,9 @@ pub struct Crowd {
 
 /// Something that runs crowds. An implementation may start threads, and may block its caller.
 pub trait Crowds {
+    /// Whether `gather` may fail with this fault. Only contracts see this.
+    ghost may_fail_with: { Self → CrewFault → Type 0 };
+
     /// Return the result for a replica without edits once 1 to 8 sessions have written to it, in whatever order. Each
     /// session takes the edits of its share, one after another, and then advances to the step.
     ///
@@ -49,7 +53,8 @@ pub trait Crowds {
         ensures edits { IfOk result (λ crowd. crowd.edits.items ≡ items (crowd_winners (shares_of shares.now))) }
         ensures journal { IfOk result (λ crowd. crowd.journal ≡ crowd_writes (shares_of shares.now)) }
         ensures row { IfOk result (λ crowd. string_bytes crowd.row
-            ≡ row_at (arc_value plan.now) (crowd_winners (shares_of shares.now)) to) };
+            ≡ row_at (arc_value plan.now) (crowd_winners (shares_of shares.now)) to) }
+        ensures fault { IfErr result (λ fault. may_fail_with self.now fault) };
 }
 
 /// Count the writes that the sessions of these shares make: one for each edit, and one advance for each session. The

@@ -1,6 +1,9 @@
 //! Runs over memory that end at a limit or with a fault, and runs over a writer of std. Their ends are worked out by
 //! hand.
 
+ghost use Rattle.std.specs.Prelude.{◌≡◌};
+ghost use Rattle.road_workers.specs.declared.faults.CrewFault.TheVariants.{WorkersGone};
+
 use road_plan::{OutOfMemory, Plan};
 use road_replica::{Crowd, Crowds};
 use road_scenario::Edit;
@@ -56,6 +59,8 @@ impl Hasher for EqualHashes {
 pub(crate) struct NoThreads;
 
 impl Crowds for NoThreads {
+    ghost may_fail_with = { λ _ fault. fault ≡ WorkersGone };
+
     fn gather(
         &self,
         _alloc: Global,
