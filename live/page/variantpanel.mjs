@@ -72,9 +72,9 @@ function show() {
 
 /** Listen to the store and to the page. */
 export function begin() {
-  on("variantForm", "submit", async (event) => {
+  on("variantForm", "submit", (event) => {
     event.preventDefault();
-    await nameVariant($("variantName").value);
+    nameVariant($("variantName").value);
     $("variantName").value = "";
   });
   on("roadsPart", "toggle", () => showRoads($("roadsPart").open));

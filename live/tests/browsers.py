@@ -155,7 +155,7 @@ class Tab:
         options.add_experimental_option("prefs", {"download.default_directory": str(downloads),
                                                   "profile.default_content_setting_values.automatic_downloads": 1})
         options.set_capability("goog:loggingPrefs", {"browser": "ALL"})
-        self.driver = webdriver.Chrome(options=options, service=Service(shutil.which("chromedriver")))
+        self.driver = webdriver.Chrome(options=options, service=Service(shutil.which("chromedriver"), free_port()))
         self.driver.set_script_timeout(10 * PATIENCE)
         self.driver.execute_cdp_cmd("Page.addScriptToEvaluateOnNewDocument", {"source": RECORDER})
         self.downloads = downloads

@@ -5,12 +5,14 @@ import asyncio
 import random
 import unittest
 from typing import Any
+from unittest import mock
 
 from faulty import Here
 from running import PATIENCE, Case
 from server.roads.turns import MORE, Job, More, Turns, Work
 
 
+ROUNDS = 10  # of the event loop, within which a seat that was answered asks again
 COUNTING: list[tuple[str, dict[str, int]]] = [("sums", {}), ("counts", {"each": 10})]
 
 
@@ -83,7 +85,8 @@ class FairTurns(unittest.IsolatedAsyncioTestCase):
             await self.asks(seat, name, cost)
 
     async def use_test_clock(self) -> None:
-        """Let the turns use the test's clock from now on."""
+        """Let the turns use the test's clock from now on, and wait some rounds of the event loop for a seat: on a busy machine a real
+        moment may be over before the seat can ask."""
         self.task.cancel()
         self.now, self.waits = 0.0, 0
         test = self
@@ -93,8 +96,11 @@ class FairTurns(unittest.IsolatedAsyncioTestCase):
 
             async def _wait_for_job(self, seconds: float) -> bool:
                 test.waits += 1
-                return await super()._wait_for_job(seconds)
-        self.turns = Counted(self.around, lambda: self.now, 1.0)
+                self._work.clear()
+                for _ in range(ROUNDS):
+                    await asyncio.sleep(0)
+                return self._work.is_set()
+        self.turns = Counted(self.around, lambda: self.now)
         self.task = asyncio.create_task(self.turns.run())
 
     async def test_a_gesture_and_its_rows_wait_for_one_long_turn(self) -> None:
@@ -218,6 +224,7 @@ class Figures(Case):
                 await figures
 
     async def test_figures_belong_to_one_road_even_if_a_gesture_comes_between_their_pieces(self) -> None:
+        self.enterContext(mock.patch("os.fsync", lambda _: None))  # a busy disk would answer the gesture after the figures
         for verb, more in COUNTING:
             async with Here() as here:
                 seat, = await here.join("Ada")

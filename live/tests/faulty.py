@@ -15,7 +15,7 @@ from pathlib import Path
 from typing import Any, Callable, NamedTuple
 from unittest import mock
 
-from running import PATIENCE, SMALL, new_folder, program
+from running import PATIENCE, SMALL, new_folder, patience, program
 from server.tabs import verbs
 from server.tabs.fields import CommandFields
 from server.journal.keeper import Keeper
@@ -138,7 +138,7 @@ class Here:
 
 async def soon(waited_for: Any) -> Any:
     """Wait for a result that nothing should delay, and return it. The test fails if that takes too long."""
-    return await asyncio.wait_for(waited_for, PATIENCE)
+    return await asyncio.wait_for(waited_for, patience())
 
 
 class Message(NamedTuple):

@@ -14,6 +14,7 @@ import random
 import re
 import shutil
 import signal
+import socket
 import statistics
 import subprocess
 import sys
@@ -42,6 +43,7 @@ PIECE = re.compile(rf"{SAID} for a piece of work of ([\d.]+) s")
 HELD_UP: list[str] = []  # the work of servers in this process that kept all others waiting for longer
 LOGS: dict[Path, int] = {}  # logs of servers, and how many bytes of each were checked
 FOLDERS: list[Path] = []
+CLAIMS: list[socket.socket] = []  # one for each port that this process has taken
 logging.getLogger("asyncio").setLevel(logging.ERROR)  # it warns where the machine is slow
 DIES_WITH_PARENT, GETS_ORPHANS = 1, 36  # PR_SET_PDEATHSIG, PR_SET_CHILD_SUBREAPER
 ctypes.CDLL(None).prctl(GETS_ORPHANS, 1)
@@ -122,11 +124,16 @@ def slowness() -> float:
     return max(1.0, os.getloadavg()[0] / len(os.sched_getaffinity(0)))
 
 
-async def until(holds: Callable[[], Awaitable[Any]], what: str, patience: float = PATIENCE) -> None:
-    """Wait until a condition holds: for `patience` seconds, or longer on a busy machine."""
+def patience(seconds: float = PATIENCE) -> float:
+    """Return for how long to wait for what nothing should delay: these seconds, or longer on a busy machine."""
+    return seconds * slowness()
+
+
+async def until(holds: Callable[[], Awaitable[Any]], what: str, seconds: float = PATIENCE) -> None:
+    """Wait until a condition holds: for `seconds`, or longer on a busy machine."""
     begin = time.monotonic()
     while not await holds():
-        if time.monotonic() > begin + patience * slowness():
+        if time.monotonic() > begin + patience(seconds):
             raise AssertionError(f"waited in vain: {what}")
         await asyncio.sleep(0.05)
 
@@ -168,7 +175,7 @@ class Server:
     def stop(self) -> int:
         """End the server as Ctrl-C does."""
         self.process.send_signal(signal.SIGINT)
-        return self.process.wait(PATIENCE)
+        return self.process.wait(patience())
 
     def restart(self) -> None:
         """Kill the server, and start it again with the same command."""
@@ -178,13 +185,18 @@ class Server:
     @property
     def program(self) -> int:
         """Return the process id of its oldest program that has not ended. Children that compute figures do not count."""
-        path = Path(f"/proc/{self.process.pid}/task/{self.process.pid}/children")
-        commands = {int(child): Path(f"/proc/{child}/cmdline").read_bytes() for child in path.read_text().split()}
-        return [child for child, command in commands.items() if command and b"server.figures" not in command][0]
+        for child in Path(f"/proc/{self.process.pid}/task/{self.process.pid}/children").read_text().split():
+            with contextlib.suppress(OSError):  # it has ended just now
+                command = Path(f"/proc/{child}/cmdline").read_bytes()
+                if command and b"server.figures" not in command:
+                    return int(child)
+        raise RuntimeError("the server has no program")
 
     def journal(self) -> list[dict[str, Any]]:
-        """Return the entries of its journal, without their checksums."""
-        lines = map(json.loads, (self.folder / "journal.jsonl").read_bytes().splitlines())
+        """Return the entries of its journal, without their checksums, up to the last line that is complete: the server may be
+        writing the next one."""
+        complete, _, _ = (self.folder / "journal.jsonl").read_bytes().rpartition(b"\n")
+        lines = map(json.loads, complete.splitlines())
         return [{name: value for name, value in line.items() if name not in ("crc", "and")} for line in lines]
 
     def seat(self, name: str = "Ada", **hello: Any) -> Seat:
@@ -209,8 +221,8 @@ class Broker:
     def start(self) -> None:
         self.process = started([mosquitto(), "-c", str(self.folder / "conf")], stdout=subprocess.DEVNULL,
                                stderr=subprocess.DEVNULL)
-        until = time.monotonic() + PATIENCE
-        while time.monotonic() < until:
+        begin = time.monotonic()
+        while time.monotonic() < begin + patience():
             with contextlib.suppress(OSError), socket_to(self.port):
                 return
             time.sleep(0.02)
@@ -227,7 +239,7 @@ class Broker:
     def say(self, topic: str, message: str) -> None:
         """Publish a message, as a stranger would."""
         subprocess.run(["mosquitto_pub", "-h", "127.0.0.1", "-p", str(self.port), "-q", "1", "-t", topic,
-                        *(["-s"] if message else ["-n"])], input=message.encode(), check=True, timeout=PATIENCE)
+                        *(["-s"] if message else ["-n"])], input=message.encode(), check=True, timeout=patience())
 
 
 def mosquitto() -> str:
@@ -236,19 +248,22 @@ def mosquitto() -> str:
 
 @contextlib.contextmanager
 def socket_to(port: int) -> Iterator[None]:
-    import socket
     with socket.create_connection(("127.0.0.1", port), 1):
         yield
 
 
 def free_port() -> int:
-    """Return a free port that no outgoing connection gets meanwhile."""
-    import socket
+    """Return a free port that no outgoing connection gets meanwhile, and no other test until this process ends: it is bound, freed and
+    bound again when a server or broker is started again."""
     while True:
         port = random.randrange(10_000, 32_000)
+        claim = socket.socket(socket.AF_UNIX)
         with socket.socket() as one, contextlib.suppress(OSError):
+            claim.bind(f"\0live/test: port {port}")
             one.bind(("127.0.0.1", port))
+            CLAIMS.append(claim)
             return port
+        claim.close()
 
 
 def is_of_server(callback: object) -> bool:

@@ -73,10 +73,10 @@ class Turns:
     """The queues of all seats, and one task that works through them."""
 
     def __init__(self, do_job: Around, clock: Callable[[], float] = time.monotonic,
-                 most_waited: float = MOST_WAITED, may_be_within: Callable[[], bool] = lambda: True) -> None:
+                 may_be_within: Callable[[], bool] = lambda: True) -> None:
         """`do_job` calls a job. If the program has exited, it may replace the program and call the job again. `may_be_within` returns
         whether a short job may be called at present without `do_job`, within the turn of another seat."""
-        self._do_job, self._clock, self._most_waited, self._may_be_within = do_job, clock, most_waited, may_be_within
+        self._do_job, self._clock, self._may_be_within = do_job, clock, may_be_within
         self._queues: Dict[int, Queue] = collections.defaultdict(collections.deque)
         self._later: Dict[int, Queue] = collections.defaultdict(collections.deque)  # jobs at leisure
         self._turn: Deque[int] = collections.deque()
@@ -120,7 +120,7 @@ class Turns:
         """Before a long turn, do jobs of other seats that have used little time or whose turns are not long. Also wait a moment for the
         next jobs of seats that have used little and were just answered."""
         own = self._uses[seat]
-        left, wait = max(LONG_TURN, own.last) * PUT_OFF, min(own.last * WAITED, self._most_waited)
+        left, wait = max(LONG_TURN, own.last) * PUT_OFF, min(own.last * WAITED, MOST_WAITED)
         while left > 0:
             lighter = self._is_lighter_than(seat)
             asking = next((one for one in self._turn if one != seat and (lighter(one) or not self._takes_long(one))), None)
@@ -129,11 +129,11 @@ class Turns:
                 await self._run_turn(asking)
                 left -= self._uses[asking].last
                 continue
-            began = time.monotonic()
+            began = self._clock()
             answered = any(self._uses[one].number > own.number for one in filter(self._is_lighter_than(seat), [*self._uses]))
             if wait <= 0 or not answered or not await self._wait_for_job(wait):
                 return
-            wait -= time.monotonic() - began
+            wait -= self._clock() - began
 
     def _is_lighter_than(self, seat: int) -> Callable[[int], bool]:
         """Return a function that tells whether a seat has used little time compared with this one."""
