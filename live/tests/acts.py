@@ -12,7 +12,7 @@ from figures_told import at_inlets, mine, value
 from server.shell.client import RefusedReply, Seat
 from server.tabs.refusals import Refused
 from server.model.operations import Stamp
-from running import SMALL, PATIENCE, Case, descendants, until
+from running import SMALL, Case, descendants, until
 
 LIMIT = ["limit", 2, 50]
 ELSEWHERE = "elsewhere-0123abcd"  # a site that does not exist
@@ -117,7 +117,7 @@ class Acts(Case):
 
             async def are_four() -> bool:
                 return len([*descendants(self.a6.process.pid)]) == 1 + 4
-            await until(are_four, "the program of the roads, and those of four previews", PATIENCE / 10)
+            await until(are_four, "the program of the roads, and those of four previews")
 
     async def test_shown_lists_which_layer_covers_which_and_when(self) -> None:
         old = await put_layer(self.ada, "old", ["limit", 2, 2, 20, 80, 1], note="long")

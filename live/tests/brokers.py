@@ -105,8 +105,7 @@ class Brokers(Case):
                 async with second.seat("Sam") as sam:
                     made = {await put(ada, "limit", 2, 80, 1): 1, await put(sam, "limit", 2, 80, 2): 2}
                     self.assertEqual(await self.same(ada, sam, edits=1), [["limit", 2, 80, 1, 64, made[max(made)]]])
-                    news = next(one["news"] for one in reversed(ada.received) if "news" in one)
-                    self.assertIn("Sam", news["from"])
+                    await until(lambda: self.has_news(ada, "Sam"), "news of Sam")
                     key = sam.key
                 second.kill()  # a site is away
                 await put(ada, "limit", 3, 90, 3)
@@ -126,6 +125,11 @@ class Brokers(Case):
                         third = self.site(broker, "east")  # it joins late, and gets everything
                         async with third.seat("Tom") as tom:
                             await self.same(again, sam, tom, edits=7)
+
+    async def has_news(self, seat: Seat, name: str) -> bool:
+        """Return whether the latest news of a seat is of changes by this person, among others."""
+        news = [one["news"] for one in seat.received if "news" in one]
+        return bool(news) and name in news[-1]["from"]
 
     async def test_a_title_goes_with_what_is_shared(self) -> None:
         broker = self.broker(keeps=False)

@@ -112,7 +112,7 @@ class Days(Case):
 
             async def done() -> bool:
                 return (self.ada, days, 4) in self.heard
-            await until(done, "this many are done", 60)
+            await until(done, "this many are done")
             self.assertEqual(await soon(self.here.ask(self.ada, "days", of=None)), {"stopped": True})
             said = await soon(question)
             self.assertEqual((said["days"], said["stopped"]), (days, True))
@@ -154,14 +154,14 @@ class Days(Case):
         self.over(2)
         await soon(self.here.ask(self.ada, "days", of=mine(self.ada), **SPAN))
         niceness, places = zip(*(line.split() for line in wrote.read_text().splitlines()))
-        self.assertEqual(set(niceness), {str(os.nice(0) + 10)})
+        self.assertEqual(set(niceness), {str(min(19, os.nice(0) + 10))})
         own = os.sched_getaffinity(0)
         allowed = set().union(*(range(int(part.split("-")[0]), int(part.split("-")[-1]) + 1)
                                 for part in places[0].split(",")))
         self.assertEqual(allowed, own - {min(own)} if len(own) > 1 else own)
         wrote.unlink()  # and so do the figures of one day
         await soon(self.here.ask(self.ada, "figures", of=mine(self.ada), **SPAN))
-        self.assertEqual({line.split()[0] for line in wrote.read_text().splitlines()}, {str(os.nice(0) + 5)})
+        self.assertEqual({line.split()[0] for line in wrote.read_text().splitlines()}, {str(min(19, os.nice(0) + 5))})
         self.here.keeper.path = before
 
     async def asks(self, seat: int) -> tuple[asyncio.Future[Any], list[int]]:
@@ -181,7 +181,7 @@ class Days(Case):
 
         async def gone() -> bool:
             return not any(map(runs, processes))
-        await until(gone, "nothing runs for it any more", 20)
+        await until(gone, "nothing runs for it any more")
 
     async def test_one_question_at_a_time_and_the_refusal_names_who_asks(self) -> None:
         question, processes = await self.asks(self.ada)
@@ -222,7 +222,7 @@ class Leaving(Case):
 
             async def free() -> bool:
                 return (await self.refusal(ben)) == ""
-            await until(free, "she has left", 20)
+            await until(free, "she has left")
 
     async def refusal(self, seat: Any) -> str:
         said = await seat.reply("days", at=seat.at, of=["shared", seat.at], **{"from": 0, "to": 60})

@@ -47,7 +47,7 @@ class Children(Case):
     async def has_ended(self, process: int) -> None:
         async def gone() -> bool:
             return not runs(process)
-        await until(gone, "it has ended", 20)
+        await until(gone, "it has ended")
 
     async def test_each_result_is_heard_and_the_process_stays_for_the_next_question(self) -> None:
         first = await soon(self.ask(3))

@@ -22,7 +22,6 @@ from server.shell.client import RefusedReply, Seat
 from server.tabs.refusals import Refused
 
 MOST, EACH, FOLDER = 20_000 if ALL else 300, 20, 1_000  # gestures: in all, before each restart, in a folder
-PATIENCE = 60.0  # seconds until a second site must hold what was shared
 LEAST = 0.5  # the part of the gestures of a verb that must be confirmed, else they try nothing
 TEXTS = ["", "works", "x" * 199 + " y", "x" * 200, "a \u200b b", "\u202eabc", " a ", "a\tb\nc", "\ufeff", "é" * 300, "\u2066a\u2069", "\x00a",
          "a\u00a0b", "\u3000", "👩‍💻", "a" * 63 + " b", "\ufffe", "\ue000", "x" * 70, "\u2028a", "\U000e0041", '"\\', "\ud7ff"]
@@ -172,7 +171,7 @@ class Gate(Case):
 
                 async def holds() -> bool:
                     return await operations_of(sam, "shared") == shared
-                await until(holds, "the second site takes what was confirmed at the first", PATIENCE)
+                await until(holds, "the second site takes what was confirmed at the first")
 
     async def test_a_shape_that_no_site_reads_is_refused(self) -> None:
         async with Here() as here:

@@ -421,7 +421,7 @@ class Neighbours(Case):
                     await tab._socket.send_str(json.dumps({"id": number, "diagram": {"at": tab.at, **rows}}))
         async with server.seat(key=ada.key) as tab:
             await tab.ask("scenario")
-        self.assertLess(used(server) - before, 24 * alone)  # of 64
+        self.assertLess(used(server) - before, 48 * alone)  # of 64: each tab had a moment
 
     async def test_nobody_waits_for_a_tab_that_floods_or_never_reads(self) -> None:
         server = self.server()

@@ -15,7 +15,7 @@ import subprocess
 import sys
 import time
 import unittest
-from typing import Any
+from typing import Any, Callable, Iterable, Iterator
 from unittest import mock
 
 import running
@@ -46,11 +46,30 @@ def line_of(entry: dict[str, Any], sum_as: str | None = "crc") -> bytes:
     return text[:-1] + summed + b"\n"
 
 
-async def forked() -> None:
-    """Wait until the process runs that writes the new journal: one more than before, since servers of other tests may still be ending."""
-    others = set(running.descendants())
-    while not set(running.descendants()) - others:
-        await asyncio.sleep(0)
+class Gate:
+    """Holds up the process that writes the new journal in a compaction, until it is opened."""
+
+    def __init__(self) -> None:
+        folder = running.new_folder()
+        self._begun, self._open = folder / "begun", folder / "open"
+
+    def before(self, entries: Callable[[], Iterable[Any]]) -> Callable[[], Iterator[Any]]:
+        """Return entries that the process gets once the gate is open."""
+        def held() -> Iterator[Any]:
+            self._begun.touch()
+            end = time.monotonic() + running.PATIENCE
+            while not self._open.exists() and time.monotonic() < end:
+                time.sleep(0.02)
+            yield from entries()
+        return held
+
+    async def is_reached(self) -> None:
+        async def has_begun() -> bool:
+            return self._begun.exists()
+        await running.until(has_begun, "the process runs that writes the new journal")
+
+    def open(self) -> None:
+        self._open.touch()
 
 
 class Reading(unittest.TestCase):
@@ -169,11 +188,12 @@ class Writing(unittest.IsolatedAsyncioTestCase):
                          b"".join(map(line_of, GESTURES, ("crc", "crc", "and"))))
 
     async def test_compaction_loses_no_entry_that_is_written_during_it(self) -> None:
-        journal = Journal(self.path, 0)
+        journal, gate = Journal(self.path, 0), Gate()
         await journal.write(GESTURES[0])
-        compaction = asyncio.ensure_future(journal.compact(lambda: [GESTURES[1]]))  # replaces GESTURES[0] by GESTURES[1]
-        await forked()
+        compaction = asyncio.ensure_future(journal.compact(gate.before(lambda: [GESTURES[1]])))  # replaces GESTURES[0] by GESTURES[1]
+        await gate.is_reached()
         await journal.write(GESTURES[2])
+        gate.open()
         await compaction
         self.assertEqual(read_entries(self.path)[0], GESTURES[1:])
         self.assertEqual(journal.size, self.path.stat().st_size)
@@ -182,22 +202,16 @@ class Writing(unittest.IsolatedAsyncioTestCase):
     async def test_nobody_waits_for_a_compaction(self) -> None:
         """Entries that are written during a compaction follow the compacted ones, which contain no change that was made during
         it."""
-        journal, held, gate = Journal(self.path, 0), [GESTURES[1]], running.new_folder() / "gate"
+        journal, held, gate = Journal(self.path, 0), [GESTURES[1]], Gate()
         await journal.write(GESTURES[0])
-
-        def entries() -> Any:
-            until = time.monotonic() + running.PATIENCE
-            while not gate.exists() and time.monotonic() < until:
-                time.sleep(0.02)
-            yield from held
-        compaction = asyncio.ensure_future(journal.compact(entries))
-        await forked()
+        compaction = asyncio.ensure_future(journal.compact(gate.before(lambda: held)))
+        await gate.is_reached()
         held.append(GESTURES[0])
         many: list[Any] = [{"gesture": {"note": "x" * 60_000, "number": number}} for number in range(20)]
         for entry in many:
             await journal.write(entry)
         self.assertFalse(compaction.done())
-        gate.touch()
+        gate.open()
         await compaction
         await journal.write(GESTURES[2])
         self.assertEqual(read_entries(self.path)[0], [GESTURES[1], *many, GESTURES[2]])
@@ -205,7 +219,7 @@ class Writing(unittest.IsolatedAsyncioTestCase):
 
     async def test_a_compaction_does_not_wait_until_nothing_is_written(self) -> None:
         """While entries are written without a pause, those before the compaction are in it, and the others follow it."""
-        journal, applied = Journal(self.path, 0), list[Any]()
+        journal, applied, gate = Journal(self.path, 0), list[Any](), Gate()
         is_enough = False
 
         async def writes() -> None:
@@ -214,8 +228,16 @@ class Writing(unittest.IsolatedAsyncioTestCase):
                 applied.append(entry)
                 await journal.write(entry)
         writers = [asyncio.create_task(writes()) for _ in range(3)]
-        await asyncio.sleep(0.01)
-        await asyncio.wait_for(journal.compact(lambda: [{"all": {"before": len(applied)}}]), running.PATIENCE)
+        await asyncio.sleep(0)
+        compaction = asyncio.ensure_future(journal.compact(gate.before(lambda: [{"all": {"before": len(applied)}}])))
+        await gate.is_reached()
+        at_the_fork = len(applied)
+
+        async def are_more() -> bool:
+            return len(applied) > at_the_fork + 9
+        await running.until(are_more, "each writer has written several entries")
+        gate.open()
+        await asyncio.wait_for(compaction, running.PATIENCE)
         is_enough = True
         await asyncio.gather(*writers)
         (first, *others), _ = read_entries(self.path)
@@ -507,9 +529,10 @@ class Folders(Case):
             self.assertEqual((await ben.ask("scenario"))["edits"], [])
             resource.prlimit(server.process.pid, resource.RLIMIT_FSIZE, (resource.RLIM_INFINITY, resource.RLIM_INFINITY))
             self.assertEqual((await ada.ask("gesture", key="full 10", shape=["block", 60, 60, 10, None, 1]))["touched"], 10)
-            await ada.reply("ping")  # pushed messages come after the reply
-            troubles = [one["trouble"] for one in ada.received if "trouble" in one]
-            self.assertEqual([bool(one) for one in troubles][-2:], [True, False])
+
+            async def is_over() -> bool:
+                return [bool(one["trouble"]) for one in ada.received if "trouble" in one][-2:] == [True, False]
+            await running.until(is_over, "the trouble is over")
             held = numbers((await ada.ask("scenario"))["edits"])
         server.restart()
         async with server.seat(key=ada.key) as ada:
@@ -560,10 +583,13 @@ class Folders(Case):
 
             async def is_shortened() -> bool:
                 return path.stat().st_ino != first
-            await running.until(is_shortened, "it is shortened", running.PATIENCE / 3)
+            await running.until(is_shortened, "it is shortened")
             await asyncio.sleep(3)
             now = (await ada.say("clock", rate=5))["now"]
-            await asyncio.sleep(4)
+
+            async def is_saved() -> bool:
+                return any(entry["clock"]["now"] >= now + 5 for entry in server.journal() if "clock" in entry)
+            await running.until(is_saved, "the clock is saved")
             server.kill()
             await asyncio.gather(*robots)
         server.start()

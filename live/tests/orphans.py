@@ -65,7 +65,7 @@ class Orphans(Case):
                 if age_of(process) > 0.3:
                     os.kill(process, signal.SIGSTOP)
             self.a6.process.send_signal(by)
-            await until(lambda: self.are(0), "all has ended", 20)
+            await until(lambda: self.are(0), "all has ended")
             await asyncio.gather(*asked, return_exceptions=True)
 
     async def are(self, count: int) -> bool:

@@ -157,13 +157,13 @@ class OneFreeway(BrowserCase):
         tab.drop()
         self.assertNotIn("zones", tab.text("readout"))  # the readout describes the drop point now
         self.assertEqual(tab.lines("own"), ["54 km/h, 2.625–3.375 km, 0:20:00–0:25:00 private"])
-        # Only 24 of the first zone's 50 cells are covered, so it is taken only while Shift is held.
+        # Only 18 of the first zone's 50 cells are covered, so it is taken only while Shift is held.
         ActionChains(tab.driver, duration=0).key_down(Keys.SHIFT).perform()
-        tab.begin_drag((376, 2400), (442, 2700))
+        tab.begin_drag((382, 2400), (442, 2700))
         self.assertIn("2.625–3.375 km, 2 whole zones of 375 m", tab.text("readout"))
         ActionChains(tab.driver, duration=0).key_up(Keys.SHIFT).perform()
         tab.drop()
-        tab.begin_drag((376, 3000), (442, 3300))
+        tab.begin_drag((382, 3000), (442, 3300))
         self.assertIn("3–3.375 km, 1 whole zone of 375 m", tab.text("readout"))
         tab.drop()
         tab.begin_drag((402, 3400), (420, 3500))
@@ -201,7 +201,7 @@ class OneFreeway(BrowserCase):
                                        {"width": width, "height": height, "deviceScaleFactor": 1, "mobile": False})
             tab.settled()
             size = tab.script("return store.plot")
-            tab.begin_drag((350, 1200), (374, 1500))
+            tab.begin_drag((350, 1200), (368, 1500))
             self.assertIn("This covers less than half of a zone", tab.text("readout"))
             self.assertEqual(tab.script("return store.plot"), size, width)
             tab.drop()

@@ -94,7 +94,7 @@ class ForAll(BrowserCase):
         tab.driver.refresh()
         tab.until(lambda: tab.text("me") == "Ada (seat 1)", "the seat")
         tab.run_an_hour()
-        self.assertEqual(tab.script("return document.querySelectorAll('.awaited').length"), 0)
+        tab.until(lambda: "…" not in tab.text("figures"), "the figures")
         self.assertAlmostEqual(tab.script(high), before, delta=LINE)
 
     def test_everything_is_visible_next_to_the_picture(self) -> None:

@@ -112,24 +112,34 @@ class Sharing(BrowserCase):
 
     def test_a_double_click_does_not_press_a_button_that_appears_there(self) -> None:
         ada, _ = self.open(FREE_ROAD)
-        ada.limit("1", "0:20", "0:30")
+        ada.script("window.clicks = []; addEventListener('click', ({detail}) => { clicks.push(detail); }, true)")
+        clicks, minute = list[int](), 0
+        while clicks != [1, 2]:  # a busy machine may take too long between them, and then these are two clicks
+            minute += 2
+            ada.limit("1", f"0:{minute:02}", f"0:{minute + 1:02}")
+            self.double_click_share_now(ada)
+            pressed, clicks = ada.script("return [pressed, clicks]")
+        self.assertEqual(pressed, 0)
+        ActionChains(ada.driver, duration=0).move_by_offset(0, 3).pause(1).click().perform()
+        self.assertEqual(ada.script("return pressed"), 1)
+
+    def double_click_share_now(self, ada: Tab) -> None:
+        """Double-click *Share now*, beneath which lies a button that counts in `pressed` how often it is pressed."""
         ada.press("Share all")
         ada.settled()
         ada.script("""
+            window.beneath?.remove();
             const {left, top} = document.querySelector("#preview .buttons button").getBoundingClientRect();
-            const beneath = Object.assign(document.createElement("button"), {textContent: "what comes there"});
+            window.beneath = Object.assign(document.createElement("button"), {textContent: "what comes there"});
             Object.assign(beneath.style, {position: "fixed", left: `${left}px`, top: `${top}px`, width: "8rem",
                                           height: "3rem"});
             Object.assign($("preview").style, {position: "relative", zIndex: 1});
-            window.pressed = 0;
+            [window.pressed, window.clicks] = [0, []];
             beneath.addEventListener("click", () => { pressed++; });
             document.body.append(beneath);""")
         first = ada.part("previewBody").find_element(By.TAG_NAME, "button")
         ActionChains(ada.driver, duration=0).double_click(first).perform()
         ada.until(lambda: ada.text("said") == "Shared 1 change.", "shared")
-        self.assertEqual(ada.script("return pressed"), 0)
-        ActionChains(ada.driver, duration=0).move_by_offset(0, 3).pause(1).click().perform()
-        self.assertEqual(ada.script("return pressed"), 1)
 
     def test_of_two_who_change_one_line_at_once_one_can_put_it_again(self) -> None:
         ada, ben = self.open(FREE_ROAD)

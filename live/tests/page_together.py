@@ -85,14 +85,15 @@ class TwoTabs(BrowserCase):
 
     def test_everybody_who_joins_sees_how_to_begin(self) -> None:
         ada, ben = self.open(FREE_ROAD)
-        self.assertTrue(ben.part("emptyHint").is_displayed())
+        ben.until(lambda: ben.part("emptyHint").is_displayed(), "the road is empty")
         ada.run_an_hour()
         for tab in (ada, ben):
             tab.until(lambda: not tab.part("emptyHint").is_displayed(), "the road is not empty")
-            self.assertTrue(tab.part("hint").is_displayed())
+            tab.until(lambda: tab.part("hint").is_displayed(), "how to begin")
             self.assertTrue(tab.text("hint").endswith("Nobody else sees it until you share it."))
         ben.driver.refresh()
         ben.until(lambda: ben.text("clock") == "1:00:00", "the same seat")
+        ben.settled()
         self.assertFalse(ben.part("emptyHint").is_displayed())
 
     def test_figures_of_both_roads_are_next_to_each_other(self) -> None:
@@ -358,7 +359,7 @@ class TwoTabs(BrowserCase):
         self.assertEqual([entry["seat"]["seat"] for entry in self.server.journal() if "seat" in entry], [1, 2])
         ada.press("Take over Ada, seat 1")
         ada.until(lambda: ada.lines("own") == ["27 km/h, 0–0.3 km, 0:20:00–0:30:00 private"], "her changes")
-        self.assertEqual(ben.text("others"), ", with Ada")
+        ben.until(lambda: ben.text("others") == ", with Ada", "she is here")
 
 
 class ThreeTabs(BrowserCase):

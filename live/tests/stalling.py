@@ -15,6 +15,14 @@ sys.path.insert(0, str(LIVE))
 from server.journal import journal  # noqa: E402
 
 
+def read(path: Path) -> str | None:
+    """Return what a file has; None if there is no such file, which a test may remove at any time."""
+    try:
+        return path.read_text()
+    except FileNotFoundError:
+        return None
+
+
 class Stalling:
     """Replaces `os` in the journal."""
 
@@ -25,7 +33,7 @@ class Stalling:
     def fsync(file: int) -> None:
         path = Path(os.readlink(f"/proc/self/fd/{file}"))
         folder = path if path.is_dir() else path.parent
-        while (folder / "stalled").exists() and (folder / "stalled").read_text() in ("", path.name) and os.fstat(file).st_size:
+        while os.fstat(file).st_size and read(folder / "stalled") in ("", path.name):
             time.sleep(0.05)
         if (folder / "failing").exists():
             raise OSError(errno.EIO, os.strerror(errno.EIO))

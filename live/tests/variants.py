@@ -266,15 +266,14 @@ class Kept(Case):
 
         async def are_few() -> bool:
             return len({*descendants()} - there) == MOST_PROGRAMS
-        await until(are_few, "four programs beside that of the roads", 10)
+        await until(are_few, "four programs beside that of the roads")
         self.here.questions.drop_seat(seats[-1])
         with mock.patch("server.roads.fixed_roads.time.monotonic", return_value=1e9 + UNUSED):
             self.here.questions.roads.find(self.ben, "file")
 
         async def are_none() -> bool:
             return {*descendants()} <= there
-        await until(are_none, "unused roads have no program", 10)
-
+        await until(are_none, "unused roads have no program")
 
     async def test_a_query_is_answered_while_another_variant_is_named(self) -> None:
         """Its roads are dropped for those with the new name once all queries are answered."""
@@ -292,7 +291,7 @@ class Kept(Case):
 
         async def is_one() -> bool:
             return len({*descendants()} - there) == 1
-        await until(is_one, "one program is left", 10)
+        await until(is_one, "one program is left")
 
 
 class Restarts(Case):
