@@ -4,6 +4,7 @@ from __future__ import annotations
 import asyncio
 import binascii
 import contextlib
+import dataclasses
 import errno
 import itertools
 import json
@@ -761,6 +762,21 @@ class Names(Case):
                 disk.is_full(False)
                 await here.keeper.wait_until_writable()
                 self.assertEqual(await self.counts(here, 1), [53])
+
+    async def test_roads_can_be_viewed_when_it_is_time_to_forget_but_the_disk_is_full(self) -> None:
+        """Changes are forgotten when the program is replaced."""
+        async with Here() as here:
+            await here.join("Ada")
+            for number in range(25):
+                await here.ask(1, "gesture", key=f"p{number}", shape=["limit", 2, 2, 50, None, 1])
+                await here.ask(1, "undo", key=f"u{number}", stamp=f"p{number}")
+            with Disk(here.folder) as disk:
+                disk.is_full()
+                with self.assertRaisesRegex(Refused, "NotWritten"):
+                    await self.counts(here, 1)
+                here.keeper.settings = dataclasses.replace(here.keeper.settings, most_lines=0)
+                for _ in range(3):
+                    self.assertEqual((await soon(here.ask(1, "cells", step=0)))["cells"], "." * SMALL["length"])
 
     def test_a_count_follows_the_clock_and_never_goes_back_with_it(self) -> None:
         now = [1_000]

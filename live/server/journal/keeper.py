@@ -334,9 +334,10 @@ class Keeper:
         self.listeners.program.notify()
 
     def _forget(self) -> None:
-        """Forget private operations that have no effect any more, except the newest. No road differs without them."""
+        """Forget private operations that have no effect any more, except the newest. No road differs without them. If the disk refuses
+        writes, forget none."""
         self.undo_count = 0
-        for seat in self.state.seats[1:]:
+        for seat in self.state.seats[1:] if self.journal.fault is None else ():
             stamps = self.state.forgettable(seat, MOST_UNDOABLE)
             if stamps:
                 self.record(Forgetting(seat.index, stamps))
