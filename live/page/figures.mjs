@@ -4,7 +4,7 @@
 
 import {boxSums} from "../../viewer/drawing.mjs";
 import {$, element, headCell, on, row, showList} from "./elements.mjs";
-import {exactOf, refreshFigures} from "./loader.mjs";
+import {countsOf, exactOf, refreshFigures} from "./loader.mjs";
 import {figureTable, wordsOf} from "./figuretable.mjs";
 import {countTrapped, privateOf} from "./layers.mjs";
 import {setOpen} from "./navigation.mjs";
@@ -48,15 +48,14 @@ function hoursOf(whose, period) {
  * @returns {FigureRow[]}
  */
 function countedRows(period) {
-  const {counts} = String(store.figures.period) === String(period) ? store.figures : {counts: null};
-  const roads = figureRoads();
+  const [counts, roads] = [countsOf(period), figureRoads()];
   const hours = roads.map((whose) => hoursOf(whose, period));
   const valuesOf = (/** @type {FigureHead} */ {key, of: [inlet, detector]}) => {
     if (key.endsWith("hours")) return hours.map((of) => of?.[key] ?? null);
     if (detector === null || inlet !== null) return roads.map(() => null);
     return roads.map((_, road) => {
       /** @type {Record<string, number | null>} */
-      const count = {...counts?.[road]?.[detector]};
+      const count = {...counts?.[road][detector]};
       return count[key] ?? null;
     });
   };

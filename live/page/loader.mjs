@@ -159,16 +159,17 @@ async function askFigures(period) {
   const {figures} = store;
   if (figures.asking || !store.connection?.isAdmitted || period[1] <= period[0]) return;
   figures.asking = true;
+  const [of, roads] = [subjectOf(period), figureRoads().map(roadOf)];    // others may be chosen while answers are awaited
   let came = false;
   try {
-    came = await askCounts(period);
-    for (const whose of figureRoads()) came = await askSums(whose, period) || came;
+    came = await askCounts(period, of, roads);
+    for (const road of roads) came = await askSums(road, period) || came;
   } finally {
     figures.asking = false;
   }
   if (!store.clock.rate) askSeries(period);
   if (came) refreshFigures();
-  else if (!store.clock.rate && periodShown().join() !== period.join()) refreshFigures();
+  else if (!store.clock.rate && subjectOf(periodShown()) !== of) refreshFigures();
   else if (!store.clock.rate) askExactSoon(period);
 }
 
@@ -269,30 +270,41 @@ function askExactSoon(period) {
 const keyOfPeriod = (period) =>
   [...period, ...figureRoads().map((whose) => `${whose} ${roadOf(whose).version}`)].join();
 
-/** Ask for the counts of the roads, if they may differ from those that are shown. Return whether
- * new ones arrived.
+/** Return a key of the roads whose figures are shown and of a period.
  * @param {Span} period
  */
-async function askCounts(period) {
+const subjectOf = (period) => [...period, ...figureRoads()].join();
+
+/** Return what the detectors of the roads whose figures are shown counted in a period, perhaps before their
+ * latest changes; null if it is not known.
+ * @param {Span} period
+ */
+export const countsOf = (period) => (store.figures.of === subjectOf(period) ? store.figures.counts : null);
+
+/** Ask for the counts of roads, if they may differ from those that are shown. Return whether new ones
+ * arrived.
+ * @param {Span} period
+ * @param {string} of        the key of the roads and the period
+ * @param {Road[]} roads
+ */
+async function askCounts(period, of, roads) {
   const [from, to] = period;
   const {figures} = store;
   const key = keyOfPeriod(period);
   if (key === figures.key) return false;
-  const roads = figureRoads().map(roadOf);      // others may be chosen while answers are awaited
   for (const road of roads) if (!await computeTo(road, to)) return false;
   const said = await Promise.all(roads.map(({at}) => ask({counts: {at, from, to}}, {quiet: ["Busy"]})));
   const counts = said.flatMap((one) => (one && "flows" in one ? [one.flows.filter(isOfPeriod)] : []));
   if (counts.length < said.length) return false;
-  assign(figures, {key, period, counts});
+  assign(figures, {key, of, counts});
   return true;
 }
 
 /** Ask for the vehicle hours of the first missing minutes of a period. Return whether they arrived.
- * @param {RoadName} whose
+ * @param {Road} road
  * @param {Span} period
  */
-async function askSums(whose, period) {
-  const road = roadOf(whose);
+async function askSums(road, period) {
   const wanted = road.minutes.findMissing(period, MINUTES_AT_ONCE);
   if (!wanted || !await computeTo(road, wanted[1])) return false;
   const {version, at} = road;

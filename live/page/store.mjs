@@ -147,9 +147,9 @@ import {HOUR} from "./units.mjs";
  * The figures of a period, in the order of the roads.
  * @typedef {object} FiguresKnown
  * @property {DetectorFigures[][] | null} counts     what the detectors of each road counted
- * @property {Span | null} period      of the counts
+ * @property {string} of               the roads and the period of the counts
  * @property {Span} wanted             the period to show
- * @property {string} key              of the roads and the period of the counts
+ * @property {string} key              of the roads with their versions, and the period of the counts
  * @property {Figures | null} exact    what is counted car by car
  * @property {string} exactKey         of the roads and the period of `exact`
  * @property {boolean} asking
@@ -180,7 +180,7 @@ export const store = {
   paint: "zoom",
   follows: true, isOpen: {asTable: false, past: false, roadsPart: false, series: false}, area: null, corner: null,
   cursor: null, drag: null, lastClick: {when: -Infinity, x: 0, y: 0}, reading: null,
-  figures: {counts: null, period: null, wanted: [0, 0], key: "", exact: null, exactKey: "",
+  figures: {counts: null, of: "", wanted: [0, 0], key: "", exact: null, exactKey: "",
             asking: false, counting: false, soon: undefined},
   series: {key: "", names: [], from: 0, to: 0, each: 60, flows: null, asking: false, site: 0,
            end: null, point: null, minute: null},
