@@ -175,7 +175,7 @@ class Measurements(unittest.TestCase):
         series = [Series(Station(name, km, 1), [50.0, 40.0], [90.0, 90.0]) for name, km in (("a", 0.0), ("b", 0.9), ("c", 1.2))]
         model = make_model("small", figures, Measured(figures.clock, 300, series, []))
         self.assertEqual((model.road.detectors[:2], model.warm, find_places(model)), ([320, 360], 300, {"b": "0.9", "c": "1.2"}))
-        counts, rows, entered = simulate_day(model, 1, with_rows=True, with_entries=True)
+        counts, _, rows, entered = simulate_day(model, 1, with_rows=True, with_entries=True)
         for place, cell in enumerate((320, 360)):
             passed = [sum(sign.isdigit() and ahead < int(sign) for ahead, sign in enumerate(row[cell:cell + 9])) for row in rows]
             self.assertEqual(counts[place][0].cars, sum(passed[1:301]))

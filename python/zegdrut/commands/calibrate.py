@@ -8,7 +8,7 @@ rounds of points are simulated in parallel on all processors, each point over so
 of COUNTS.csv, and the spread between the days is shown; with --check the result is compared with other days. On a terminal it shows the
 progress and the best point; to a log it writes a line every ten seconds.
 
-It prints the result, the terms of its error and the ten best points. It writes calibrated-NAME.json (ROAD.json with the fitted drivers, and the measured demand
+It prints the result, the terms of the smallest error, the ten best points, and the errors of the result and of the drivers of ROAD.json. It writes calibrated-NAME.json (ROAD.json with the fitted drivers, and the measured demand
 of the main road and of the ramps times the fitted factor), tried-NAME.csv (all points with their errors) and surface-NAME.svg (a picture
 of the errors). zegdrut/measurements/calibration.py defines the error. An error of about 2 is as good as chance allows. The command warns if the
 smallest error is above 5, and if a result is within 5 % of the bounds of its range. Then it compares the congestion of the result with the
@@ -26,13 +26,14 @@ import shlex
 import statistics
 import sys
 from pathlib import Path
-from typing import Sequence
+from typing import NamedTuple, Sequence
 
 from ..measurements.calibration import (DELAY_UNCERTAINTY, NAMES, TERMS, TOTAL_UNCERTAINTY, Alternatives, Bounds, Calibration, MeasuredDay, Misfit,
-                                        Point, Search, Trial, apply_point, calibrate, find_alternatives, is_congested, list_limits, make_calibrated)
+                                        Point, Search, Trial, apply_point, calibrate, find_alternatives, find_chance, is_congested, list_limits,
+                                        make_calibrated)
 from ..measurements.comparison import compare_hours, make_model, with_measured_demand
 from ..measurements.congestion import CONGESTED, Both, compare_time_lost, list_segments, simulate_segments
-from ..measurements.measured import Measured
+from ..measurements.measured import TIME_MEAN, Measured
 from ..program.bars import Bar
 from ..program.errors import Fault, LabError, describe_error
 from ..program.programs import program_path
@@ -40,7 +41,7 @@ from ..reports.outputs import prepare_folder
 from ..reports.pictures import draw_points, stack_drawings
 from ..roads.demand import BeyondCapacity
 from ..roads.freeway import Figures, make_road, measure_chances
-from ..roads.freeway_files import Alternative, Calibrated, format_range, write_road
+from ..roads.freeway_files import Alternative, Calibrated, write_road
 from ..roads.units import count_things
 from .freeway import FIGURES
 from .measured import (DAYS, Congestion, add_congestion_argument, add_data_arguments, check_congested, format_shares, print_lines, read_days,
@@ -184,6 +185,20 @@ def format_days(days: Sequence[MeasuredDay], found: Calibration) -> list[str]:
     return [*rows, "spread between days," + ",".join(f"{statistics.stdev(values):.3f}" for values in zip(*found.of_days))]
 
 
+def describe_errors(found: Calibration, figures: Figures) -> list[str]:
+    """Return the errors of the result and of the drivers of the file, and whether both fit equally well within chance."""
+    if found.result is None or found.own is None:
+        return []
+    drivers = f"the drivers of the file (limit {figures.limit:g} km/h, slowing {found.own.point.slowing:g}, slow-to-start {found.own.point.start:g})"
+    if not math.isfinite(found.own.error):
+        return [f"error {found.result.error:.1f} of the result; {drivers} do not admit the demand"]
+    off, chance = found.own.error - found.result.error, find_chance(found)
+    verdict = "" if chance is None else (f", and errors less than {chance:.1f} apart fit equally well within chance: the drivers of the file fit "
+                                         + ("as well" if abs(off) < chance else "worse" if off > 0 else "better: try more points"))
+    return [f"error {found.result.error:.1f} of the result, and {found.own.error:.1f} of {drivers}, on the same simulated days. Chance alone makes about "
+            f"{CHANCE_ERROR}{verdict}"]
+
+
 def draw_surface(found: Calibration) -> str:
     """Return the errors over slowing and slow-to-start, and over slowing and factor, as SVG."""
     known = [one for one in found.tried if math.isfinite(one.error)]
@@ -222,6 +237,7 @@ def run_calibration(given: argparse.Namespace, out: Path) -> None:
     limits = list_limits(figures, [day for _, day in days], bounds)
     report_progress(f"trying {search.total} points with the {count_things(len(limits), 'limit')} {', '.join(f'{one:g}' for one in limits)} km/h")
     found = search_limits(given, days, bounds, search, limits)
+    figures_of_file = figures
     days, checked = ([(dataclasses.replace(one, limit=found.limit), day) for one, day in each] for each in (days, checked))
     figures, measured = days[0]
     if not found.is_fitted:
@@ -234,7 +250,7 @@ def run_calibration(given: argparse.Namespace, out: Path) -> None:
     if len(days) > 1:
         print("\n" + "\n".join(format_days(days, found)))
     print("\n" + "\n".join(format_trials(found.best_ten())))
-    print_lines(list_warnings(found, bounds))
+    print_lines(["", *describe_errors(found, figures_of_file), *list_warnings(found, bounds)])
     best = found.best._replace(slowing=round(found.best.slowing, 4), start=round(found.best.start, 4))
     calibrated = dataclasses.replace(make_calibrated(figures, measured, best), calibration=None)
     path = folder / f"calibrated-{name}.json"
@@ -249,13 +265,12 @@ def run_calibration(given: argparse.Namespace, out: Path) -> None:
             for road, day in each:
                 # The written file has the demand of the first day, rounded. The same file has the same figures in `measured`.
                 own = (FIGURES.override(path), None) if day is measured else (apply_point(road, best), best.factor)
-                lines, delay = compare_calibrated(given, own[0], day, own[1])
-                print_lines(["", f"{what}: {day.clock.date or 'the counts'}", *lines])
-                if alternatives is not None and delay is not None and each is days:
-                    sure = measure_alternatives(given, alternatives, (road, day), best, delay.simulated)
-                    print_lines([describe_alternatives(alternatives, found, sure, delay)])
+                congestion = compare_calibrated(given, own[0], day, own[1], f"{what}: {day.clock.date or 'the counts'}")
+                if alternatives is not None and congestion.delay is not None and each is days:
+                    sure = measure_alternatives(given, alternatives, (road, day), best, congestion.delay)
+                    print_lines([describe_alternatives(alternatives, found, sure, congestion)])
                     if day is measured:
-                        write_road(path, given.road, dataclasses.replace(calibrated, calibration=sure))
+                        write_road(path, given.road, dataclasses.replace(calibrated, calibration=sure.to_file()))
     more = "".join(f" {word}" for word in list_count_words(given))
     print(f"The calibrated road, the points and the picture are in {folder}. Compare the road with its counts by "
           f"`recipes/measured/run {path} {given.counts}{more} --demand road`", file=sys.stderr)
@@ -287,8 +302,9 @@ def list_count_words(given: argparse.Namespace) -> list[str]:
     words += [f"--origin {given.origin:g}"] if given.origin is not None else []
     words += ["--reverse"] if given.reverse else []
     words += ["--no-ramp-check"] if given.no_ramp_check else []
+    words += [f"--speeds {given.speeds}"] if given.speeds != TIME_MEAN else []
     words += [f"--congested {given.congested:g}"] if given.congested != CONGESTED else []
-    return [*words, *(f"--{name.replace('_', '-')} {shlex.quote(one)}" for name in ("leave_out", "scale", "column", "unit")
+    return [*words, *(f"--{name.replace('_', '-')} {shlex.quote(one)}" for name in ("leave_out", "scale", "shift", "column", "unit")
                       for one in getattr(given, name))]
 
 
@@ -302,37 +318,63 @@ def check_admission(figures: Figures) -> bool:
     return True
 
 
-def compare_calibrated(given: argparse.Namespace, figures: Figures, measured: Measured, factor: float | None) -> tuple[list[str], Both | None]:
+def compare_calibrated(given: argparse.Namespace, figures: Figures, measured: Measured, factor: float | None, title: str) -> Congestion:
     """Simulate a road over as many days as `measured` does, with the measured demand times a factor, or with its own demand if `factor` is
-    None. Return its congestion beside the measured one, its GEH and a verdict on each jam, and its delay (None without speeds)."""
+    None. Print its congestion beside the measured one, its GEH and a verdict on each jam."""
     model = make_model(given.road.stem, figures, measured, factor)
     days = simulate_segments(model, list_segments(model), DAYS)
     congestion = Congestion(model, days, given.congested)
-    return [*congestion.format_table(), "", *format_shares(measured, compare_hours(measured, [one.passed for one in days])),
-            *congestion.describe()], congestion.delay
+    print_lines(["", title, *congestion.format_table(), "", *format_shares(measured, compare_hours(measured, [one.passed for one in days])),
+                 *congestion.describe()])
+    return congestion
 
 
-def measure_alternatives(given: argparse.Namespace, alternatives: Alternatives, day: MeasuredDay, best: Point, delay: float) -> Calibrated:
+class Sure(NamedTuple):
+    """The delay of the result, and of the drivers that fit as well those with the least and the most delay, with the delays of both."""
+
+    delay: Both
+    less: tuple[Alternative, Both]
+    more: tuple[Alternative, Both]
+
+    def to_file(self) -> Calibrated:
+        """Return what the file of the calibrated road has of this."""
+        return Calibrated(round(self.delay.simulated, 2), self.less[0], self.more[0])
+
+    def describe(self) -> str:
+        """Return the least and the most delay, each with half its 95 % interval, and a remark if the range is on one side of the result."""
+        low, *_, high = sorted((self.delay, self.less[1], self.more[1]), key=lambda both: both.simulated)
+        own, less, more = (both.simulated for both in (self.delay, self.less[1], self.more[1]))
+        side = "less" if 0 < own < less else "more" if own > more else ""
+        return (f"{format_both(low)} to {format_both(high)} by drivers that fit as well within chance"
+                + f" (points with {side} delay than the result were tried, and fit worse)" * bool(side))
+
+
+def format_both(both: Both) -> str:
+    """Return a simulated value with half its 95 % interval."""
+    return f"{both.simulated:.1f}" + ("" if both.half is None else f" ± {both.half:.1f}")
+
+
+def measure_alternatives(given: argparse.Namespace, alternatives: Alternatives, day: MeasuredDay, best: Point, delay: Both) -> Sure:
     """Measure the delay of the drivers that fit a measured day as well, over the same simulated days as that of the best point."""
     report_progress("simulating drivers that fit as well")
     road, measured = day
 
-    def measure(point: Point) -> Alternative:
+    def measure(point: Point) -> tuple[Alternative, Both]:
         rounded = point._replace(slowing=round(point.slowing, 4), start=round(point.start, 4))
         model = make_model(given.road.stem, apply_point(road, rounded), measured, rounded.factor)
         lost = compare_time_lost(segments := list_segments(model), simulate_segments(model, segments, DAYS), given.congested)
-        return Alternative(rounded.slowing, rounded.start, round(rounded.factor / best.factor, 5), round(lost.delay.simulated, 2) if lost else 0.0)
-    less, more = sorted(map(measure, (alternatives.less, alternatives.more)), key=lambda drivers: drivers.delay)
-    return Calibrated(round(delay, 2), less, more)
+        found = lost.delay if lost else Both(0.0, 0.0, None)
+        return Alternative(rounded.slowing, rounded.start, round(rounded.factor / best.factor, 5), round(found.simulated, 2)), found
+    less, more = sorted(map(measure, (alternatives.less, alternatives.more)), key=lambda drivers: drivers[0].delay)
+    return Sure(delay, less, more)
 
 
-def describe_alternatives(alternatives: Alternatives, found: Calibration, sure: Calibrated, delay: Both) -> str:
+def describe_alternatives(alternatives: Alternatives, found: Calibration, sure: Sure, congestion: Congestion) -> str:
     """Return a sentence on the delay, measured and simulated, and how far it moves over the points that fit as well."""
     later = sum(bool(one.round) for one in found.tried)
-    half = "" if delay.half is None else f" ± {delay.half:.1f}"
-    return (f"delay of congested traffic in vehicle hours per lane: {delay.measured:.1f} measured, by the speeds of cars that pass a station, and "
-            f"{delay.simulated:.1f}{half} simulated, by all cars between the stations. "
-            f"Calibration: {format_range(sure)} by drivers that fit as well within chance ({alternatives.points} of {later} points, with errors up to "
+    at_stations = "" if congestion.delay_at_stations is None else f" and {format_both(congestion.delay_at_stations)} simulated"
+    return (f"delay of congested traffic in vehicle hours per lane: by the cars that pass the stations {sure.delay.measured:.1f} measured{at_stations}, by all "
+            f"cars between them {format_both(sure.delay)} simulated. Calibration: {sure.describe()} ({alternatives.points} of {later} points, with errors up to "
             f"{alternatives.most_error:.1f}). ± does not include this")
 
 

@@ -28,7 +28,7 @@ from ..measurements.comparison import (Day, Hour, Model, compare_hours, compare_
                           simulate_day, simulate_days, with_measured_demand, with_stations)
 from ..measurements.congestion import (CONGESTED, LONG_INTERVAL, Both, JudgedDay, compare_time_lost, describe_congested_demand, describe_jams,
                                        describe_lost, judge, list_segments, simulate_segments)
-from ..measurements.measured import Measured, put_on_road
+from ..measurements.measured import SPACE_MEAN, TIME_MEAN, Measured, put_on_road
 from ..measurements.stations import HEADERS, Counts, correct_counts, read_counts, read_stations
 from ..program.bars import Bar
 from ..program.errors import Fault, LabError, describe_error
@@ -92,9 +92,13 @@ def add_count_options(parser: argparse.ArgumentParser) -> None:
     parser.add_argument("--leave-out", action="append", default=[], metavar="STATION", help="do not use this station")
     parser.add_argument("--scale", action="append", default=[], metavar="STATION=FACTOR", help="multiply the counts of a station that counts "
                         "too many or too few, such as 103=0.926")
+    parser.add_argument("--shift", action="append", default=[], metavar="STATION=MINUTES", help="move the times of a station whose clock is wrong, such "
+                        "as 103=-10 if it is 10 minutes fast")
     parser.add_argument("--no-ramp-check", action="store_true", help="compare also the stations after a fall of the flow, as at an off-ramp")
     parser.add_argument("--column", action="append", default=[], metavar="QUANTITY=COLUMN", help="title of the column of a quantity, such as speed=v_mean")
     parser.add_argument("--unit", action="append", default=[], metavar="speed=UNIT", help="unit of the speeds: km/h, mph or m/s")
+    parser.add_argument("--speeds", choices=(TIME_MEAN, SPACE_MEAN), default=TIME_MEAN, help="what the speeds are: arithmetic means of the cars that pass, "
+                        "or means of the cars on the road, such as harmonic means or flow / density (default: %(default)s)")
 
 
 def read_pairs(given: list[str], word: str, example: str, known: Sequence[str]) -> dict[str, str]:
@@ -108,15 +112,15 @@ def read_pairs(given: list[str], word: str, example: str, known: Sequence[str]) 
     return found
 
 
-def read_factors(given: list[str]) -> dict[str, float]:
-    """Read arguments such as 103=0.926 into a dictionary. Fault: one has no factor."""
+def read_numbers(given: list[str], form: str) -> dict[str, float]:
+    """Read arguments such as 103=0.926 into a dictionary. `form` is that of the option. Fault: one has no number."""
     found = {}
     for one in given:
         name, sign, text = one.rpartition("=")
         try:
             found[name] = float(text if sign else "")
         except ValueError:
-            raise Fault(f"--scale must be STATION=FACTOR, such as 103=0.926, not {one}") from None
+            raise Fault(f"{form}, not {one}") from None
     return found
 
 
@@ -149,10 +153,12 @@ def read_day(given: argparse.Namespace, figures: Figures) -> tuple[Figures, Meas
     # Faults of other days are not told. If no row has the date, all rows are read, and `put_on_road` says what dates they have.
     counts = read_counts(given.counts, table, columns, units, list_dates(figures))
     counts = counts if counts.rows else read_counts(given.counts, table, columns, units)
-    counts = correct_counts(counts, given.leave_out, read_factors(given.scale))
+    counts = correct_counts(counts, given.leave_out, read_numbers(given.scale, "--scale must be STATION=FACTOR, such as 103=0.926"),
+                            read_numbers(given.shift, "--shift must be STATION=MINUTES, such as 103=-10"))
     figures = with_date_of(figures, counts)
     gives_demand = getattr(given, "demand", "counts") == "counts"  # (`calibrate` has no such option)
     measured = put_on_road(counts, figures.clock, round(figures.minutes * 60), given.origin, given.reverse, not given.no_ramp_check, gives_demand)
+    measured = dataclasses.replace(measured, mean=given.speeds)
     road = with_stations(figures, measured)
     if not gives_demand:
         make_road(road)
@@ -217,7 +223,7 @@ def format_hours(model: Model, hours: Sequence[Hour]) -> list[str]:
 def format_speeds(model: Model, days: Sequence[Day]) -> list[str]:
     """Return the table of speeds by station and for all stations."""
     errors, places = compare_speeds(model.measured, days), find_places(model)
-    rows = ["station,km,intervals,RMSE of time-mean speed km/h,simulated minus measured km/h".split(",")]
+    rows = [f"station,km,intervals,RMSE of {model.measured.mean} speed km/h,simulated minus measured km/h".split(",")]
     rows += [[one.station, places[one.station], str(one.intervals), format_number(one.rmse), format_number(one.bias)] for one in errors]
     return format_csv([*rows, ["all", "", str(sum(one.intervals for one in errors)), format_number(compute_total_rmse(errors)), ""]])
 
@@ -230,7 +236,7 @@ class Congestion:
         self._measured, self._share = model.measured, share
         self._found = judge(model.measured, days, share)
         self._segments = list_segments(model)
-        self._lost = compare_time_lost(self._segments, days, share)
+        self._lost, self._lost_at_stations = (compare_time_lost(self._segments, days, share, at_stations) for at_stations in (False, True))
         self._lost_cars = describe_lost(model, days)
 
     def format_table(self) -> list[str]:
@@ -238,16 +244,17 @@ class Congestion:
         rows = ["figure,unit,value,±".split(",")]
         names = ("congested in both", "congested only measured", "congested only simulated", "congested in neither")
         rows += [[name, "station intervals", str(count), ""] for name, count in zip(names, self._found.count())]
+        mean = self._measured.mean
         for what, off in (("measured congestion", self._found.congested), ("measured free traffic", self._found.free)):
-            rows += [[f"RMSE of speed in {what}", "km/h", format_number(off.rmse), ""],
-                     [f"simulated minus measured speed in {what}", "km/h", format_number(off.bias), ""]]
+            rows += [[f"RMSE of {mean} speed in {what}", "km/h", format_number(off.rmse), ""],
+                     [f"simulated minus measured {mean} speed in {what}", "km/h", format_number(off.bias), ""]]
         bound = " (at least)" if self._lost_cars else ""
-        if self._lost is not None:
-            for name, unit, both in (("delay of congested traffic", "vehicle hours per lane", self._lost.delay),
-                                     ("mean travel time", "s", self._lost.mean_time), ("longest travel time", "s", self._lost.longest_time)):
-                if both is not None:
-                    rows += [[f"{name}, measured", unit, format_number(both.measured), ""],
-                             [f"{name}, simulated{bound}", unit, format_number(both.simulated), format_number(both.half)]]
+        for name, unit, both, alike in zip(("delay of congested traffic", "mean travel time", "longest travel time"), ("vehicle hours per lane", "s", "s"),
+                                           self._lost or (), self._lost_at_stations or ()):
+            if both is not None and alike is not None:
+                rows += [[f"{name}, measured at stations", unit, format_number(both.measured), ""],
+                         [f"{name}, simulated at stations{bound}", unit, format_number(alike.simulated), format_number(alike.half)],
+                         [f"{name}, simulated by all cars{bound}", unit, format_number(both.simulated), format_number(both.half)]]
         return format_csv(rows)
 
     @property
@@ -255,9 +262,14 @@ class Congestion:
         """Return the delay of congested traffic in vehicle hours per lane, or None without speeds."""
         return None if self._lost is None else self._lost.delay
 
+    @property
+    def delay_at_stations(self) -> Both | None:
+        """Return the delay by the cars that pass the stations, or None without speeds."""
+        return None if self._lost_at_stations is None else self._lost_at_stations.delay
+
     def describe(self) -> list[str]:
         """Return what congestion means here, the stretch of the delay and the travel times, and a verdict on each jam."""
-        said = [f"congested: below {self._share:g} of the free speed of the station"]
+        said = [f"congested: below {self._share:g} of the free speed of the station, {describe_means(self._measured.mean)}"]
         if self._lost is not None:
             first, last = (self._segments[place].series.station for place in (0, -1))
             said.append(f"delay and travel times: from station {first.name} to {last.name}, km {first.km:g} to {last.km:g}; travel times are means over "
@@ -267,6 +279,12 @@ class Congestion:
             said.append(f"in counts of {count_things(interval // 60, 'minute')} one free interval ends a jam: for a verdict add them up to "
                         f"{LONG_INTERVAL // 60} minutes")
         return [*said, *self._lost_cars, *describe_jams(self._found, self._measured)]
+
+
+def describe_means(mean: str) -> str:
+    """Return by which speeds the counts and the simulation are congested."""
+    return ("measured and simulated by space-mean speeds" if mean == SPACE_MEAN else
+            "measured by time-mean speeds, and simulated by space-mean speeds, which are lower in a jam")
 
 
 def format_records(records: Sequence[Record]) -> list[str]:
@@ -290,13 +308,13 @@ def draw_comparison(model: Model, days: Sequence[Day]) -> str:
 
 def make_comparison_charts(model: Model, days: Sequence[Day]) -> list[Chart]:
     """Return charts of measured and simulated flow and speed by time, two for each station."""
-    measured, charts, places = model.measured, list[Chart](), find_places(model)
+    measured, mean, charts, places = model.measured, model.measured.mean, list[Chart](), find_places(model)
     records = cast("list[dict[str, Optional[float]]]", make_interval_records(model, days))  # (the figures of these charts)
     for index, series in enumerate(measured.main[1:]):
         rows = records[index * measured.intervals:(index + 1) * measured.intervals]
         middles = [(place + 0.5) * measured.interval for place in range(measured.intervals)]
         for what, unit, names in (("Flow", "cars/h per lane", ("measured cars/h/lane", "simulated cars/h/lane", "± cars/h/lane")),
-                                  ("Time-mean speed", "km/h", ("measured time-mean km/h", "simulated time-mean km/h", ""))):
+                                  (f"{mean.capitalize()} speed", "km/h", (f"measured {mean} km/h", f"simulated {mean} km/h", ""))):
             chart = Chart(f"{what}, station {series.station.name}, km {places[series.station.name]}", unit, measured.clock, 0, model.window_steps)
             simulated, half = [row[names[1]] for row in rows], [row.get(names[2]) for row in rows]
             pairs = [(mean, width) for mean, width in zip(simulated, half) if mean is not None and width is not None]
@@ -320,7 +338,7 @@ def make_measured_field(model: Model, pieces: int) -> Field:
 
 def draw_space_time(model: Model) -> str:
     """Return the measured and the simulated space-time diagram with the same colour scale, as SVG."""
-    _, rows, _ = simulate_day(model, model.seed, with_rows=True)
+    rows = simulate_day(model, model.seed, with_rows=True).rows
     road, clock = model.road, model.measured.clock
     km = road.to_km(road.length)
     simulated = make_speed_field([row[road.approach:] for row in rows], A_MINUTE, CELLS_A_PIECE)
@@ -328,7 +346,7 @@ def draw_space_time(model: Model) -> str:
     drawn = [draw_field(simulated, f"Simulated space-mean speed, seed {model.seed}", clock, 0, model.window_steps, km, ramps=ramps, detectors=stations)]
     if any(speed is not None for one in model.measured.main for speed in one.speeds):
         measured = make_measured_field(model, len(simulated[0]))
-        drawn.insert(0, draw_field(measured, "Measured time-mean speed, nearest station", clock, 0, model.window_steps, km, ramps=ramps, detectors=stations))
+        drawn.insert(0, draw_field(measured, f"Measured {model.measured.mean} speed, nearest station", clock, 0, model.window_steps, km, ramps=ramps, detectors=stations))
     return stack_drawings([*drawn, draw_scale(has_no_data=len(drawn) > 1, has_ramps=bool(ramps), has_detectors=True)])
 
 

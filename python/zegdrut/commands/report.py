@@ -27,7 +27,7 @@ from ..figures.table import FigureRow
 from ..figures.trips import Window
 from ..measurements.comparison import Model, compare_hours, list_left_out, make_model
 from ..measurements.congestion import list_segments, simulate_segments
-from ..measurements.measured import Measured
+from ..measurements.measured import TIME_MEAN, Measured
 from ..program.bars import Bar
 from ..program.errors import Fault, LabError, describe_error
 from ..program.wire import Record
@@ -105,9 +105,10 @@ def read_request(given: argparse.Namespace) -> Request:
     check_days(given.days, 1)
     check_congested(given.congested)
     if given.counts is None:
-        used = [f"--{name.replace('_', '-')}" for name in ("stations", "origin", "reverse", "leave_out", "scale", "no_ramp_check", "column", "unit")
+        used = [f"--{name.replace('_', '-')}" for name in ("stations", "origin", "reverse", "leave_out", "scale", "shift", "no_ramp_check", "column", "unit")
                 if getattr(given, name) not in (None, False, [])]
         used += ["--demand"] if given.demand != "counts" else []
+        used += ["--speeds"] if given.speeds != TIME_MEAN else []
         if used:
             raise Fault(f"{used[0]} has no effect without counts: add --counts CSV, or leave it out")
     if given.warm_up is not None and not 0 <= given.warm_up <= MOST_WARM_UP:

@@ -31,6 +31,8 @@ A point fits as well as the best within chance if its error is above the smalles
 standard deviation of the errors that the simulated days of a point have alone, the median of the ten best points. (The measured day is a
 single day, too.) `find_alternatives` returns those two of these points whose drivers cause the least and the most delay. The delay of a
 few days varies by chance, so the points are compared by a plane that is fitted to the logarithms of their delays over both chances.
+These points may lie on one side of the result. So after the search a last round tries the points opposite them. It also tries the result
+and the drivers of the file, all on the same new days.
 """
 from __future__ import annotations
 
@@ -151,6 +153,10 @@ class Calibration:
     """Whether the best point is the minimum of a quadratic. Otherwise it is the mean of the elites, which is less accurate."""
     of_days: tuple[Point, ...] = ()
     """The result of each measured day alone, from the same trials."""
+    result: Trial | None = None
+    """The trial of the best point, if the last round was made."""
+    own: Trial | None = None
+    """The trial of the drivers and the limit of the file on the same days, if the last round was made."""
 
     @property
     def least_error(self) -> float:
@@ -215,14 +221,14 @@ def compute_misfit(model: Model, days: Sequence[Day], scales: Sequence[float]) -
             if cars is not None:
                 flows.append((mean_cars - cars) ** 2 / max(cars, 1.0))
                 total = [total[0] + mean_cars, total[1] + cars]
-            measured, known = series.speeds[place], [one for one in passed if one.cars]
+            measured, known = series.speeds[place], [(one.cars, one.speed) for one in passed if one.speed is not None]
             if measured is None or cars is None or not known:
                 continue
-            mean = math.fsum(one.speeds / one.cars * KMH for one in known) / len(known)
+            mean = math.fsum(speed for _, speed in known) / len(known)
             speeds.append((mean - measured) ** 2 / (1 + 0.5 * max(free - measured, free - mean, 0.0)) ** 2)
             if measured > free - FREE:
                 free_speeds.append(mean - measured)
-            delays[0] += math.fsum(one.cars * excess_seconds_per_km(one.speeds / one.cars * KMH, free) for one in known) / len(days)
+            delays[0] += math.fsum(number * excess_seconds_per_km(speed, free) for number, speed in known) / len(days)
             delays[1] += cars * excess_seconds_per_km(measured, free)
         if total[1]:
             totals.append(((total[0] / total[1] - 1) / TOTAL_UNCERTAINTY) ** 2)
@@ -268,9 +274,9 @@ def evaluate_day(name: str, figures: Figures, measured: Measured, point: Point, 
     asked = math.fsum(count_demand(rates, 0, model.road.steps) for _, rates in model.road.inlets)
     days, scales = [], []
     for seed in seeds:
-        day, _, admitted = simulate_day(model, seed, with_entries=True)
-        days.append(day)
-        scales.append(min(max(asked / max(sum(admitted), 1), 0.95), 1.05))
+        run = simulate_day(model, seed, with_entries=True)
+        days.append(run.day)
+        scales.append(min(max(asked / max(sum(run.admitted), 1), 0.95), 1.05))
     alone = [compute_misfit(model, [day], [scale]).error for day, scale in zip(days, scales)]
     return compute_misfit(model, days, scales)._replace(by_seed=tuple(alone))
 
@@ -398,10 +404,42 @@ def calibrate(name: str, days: Sequence[MeasuredDay], bounds: Bounds = Bounds(),
             faults.append(fault)
     if not found:
         raise faults[0]
-    return min(found, key=lambda one: one.least_error)
+    return check_result(name, days, min(found, key=lambda one: one.least_error), bounds, search, jobs, executor, ship)
 
 
 # How sure the result is
+
+def check_result(name: str, days: Sequence[MeasuredDay], found: Calibration, bounds: Bounds, search: Search, jobs: int | None,
+                 executor: Executor | None, ship: bool) -> Calibration:
+    """Make the last round: try the result, the points opposite those that fit as well, and the drivers of the file, on the same new days."""
+    def try_new(days: Sequence[MeasuredDay], points: Sequence[Point]) -> list[Trial]:
+        return try_points(functools.partial(evaluate_alone, name, days), points, search.rounds, search.days, lambda trials: None, jobs, executor, ship)
+    limited = [(dataclasses.replace(figures, limit=found.limit), measured) for figures, measured in days]
+    result, *opposite = try_new(limited, [found.best, *list_opposite(found, bounds)])
+    figures = days[0][0]
+    own, = try_new(days, [Point(figures.slowing, figures.start or 0.0, 1.0)])
+    return dataclasses.replace(found, tried=[*found.tried, result, *opposite], result=result, own=own)
+
+
+def list_opposite(found: Calibration, bounds: Bounds) -> list[Point]:
+    """Return the points opposite those that fit as well as the best, as seen from the result, if they are within the bounds."""
+    chance = find_chance(found)
+    opposite = [Point(2 * found.best.slowing - one.point.slowing, 2 * found.best.start - one.point.start, found.best.factor)
+                for one in ([] if chance is None else list_equal(found, chance))]
+    return [point for point in opposite if all(low <= value <= high for value, (low, high) in zip(point[:2], bounds[:2]))]
+
+
+def find_chance(found: Calibration) -> float | None:
+    """Return the difference of errors that chance makes: the median of the standard deviations between the days of the best points. None: they
+    have a single day."""
+    alone = [[math.fsum(errors) / len(errors) for errors in zip(*(day.by_seed for day in one.by_day))] for one in found.best_ten() if math.isfinite(one.error)]
+    return statistics.median(statistics.stdev(errors) for errors in alone) if len(alone[0]) > 1 else None
+
+
+def list_equal(found: Calibration, chance: float) -> list[Trial]:
+    """Return the trials after the first round that fit as well as the best."""
+    return [one for one in found.tried if one.round and one.error <= found.least_error + chance]
+
 
 class Alternatives(NamedTuple):
     """The drivers of the points that fit as well as the best within chance: the number of these points, the largest error that they may
@@ -424,19 +462,14 @@ LEAST_EQUAL = 3
 def find_alternatives(found: Calibration) -> Alternatives | None:
     """Return the drivers that fit as well as the best within chance, or None if a point has a single simulated day or too few points fit as
     well."""
-    later = [one for one in found.tried if one.round and math.isfinite(one.error)]
-    alone = [[math.fsum(errors) / len(errors) for errors in zip(*(day.by_seed for day in one.by_day))] for one in found.best_ten() if one in later]
-    if len(alone[0]) < 2:
-        return None
-    most = found.least_error + statistics.median(statistics.stdev(errors) for errors in alone)
-    equal = [one for one in later if one.error <= most]
-    if len(equal) < LEAST_EQUAL:
+    chance = find_chance(found)
+    if chance is None or len(equal := list_equal(found, chance)) < LEAST_EQUAL:
         return None
     delays = [math.fsum(day.delay for day in one.by_day) / len(one.by_day) for one in equal]
     of_slowing, of_start = fit_slopes([one.point[:2] for one in equal], delays)
     # Without any delay both slopes are 0. Then the slow-to-start chance decides, which will matter in a jam.
     ranked = sorted((one.point for one in equal), key=lambda point: of_slowing * point.slowing + (of_start + FLAT) * point.start)
-    return Alternatives(len(equal), most, ranked[0], ranked[-1])
+    return Alternatives(len(equal), found.least_error + chance, ranked[0], ranked[-1])
 
 
 def fit_slopes(places: Sequence[tuple[float, float]], values: Sequence[float]) -> Sequence[float]:
@@ -464,14 +497,10 @@ def calibrate_limit(measured_days: Sequence[MeasuredDay], bounds: Bounds, search
         points = (draw_next_points(bounds, factor, elites[-1], search.points, rng) if number
                   else draw_first_points(bounds, factor, search.first_points))
         days = search.days if number else search.first_days
-        seeds = range(10_000 * (number + 1), 10_000 * (number + 1) + days)
-        found: list[Trial] = []
-        with contextlib.closing(run_jobs(functools.partial(attempt, work), [(point, seeds) for point in points], jobs, executor, ship)) as running:
-            for done in running:
-                if done.error is not None or isinstance(done.value, Fault):
-                    raise Fault(str(done.error or done.value))
-                found.append(make_trial(points[done.job], number, cast(Sequence[Misfit], done.value)))
-                progress(len(tried) + len(found), min(found, key=lambda one: one.error))
+
+        def tell(trials: list[Trial], before: int = len(tried)) -> None:
+            progress(before + len(trials), min(trials, key=lambda one: one.error))
+        found = try_points(work, points, number, days, tell, jobs, executor, ship)
         tried += found
         elite = sorted((one for one in found if math.isfinite(one.error)), key=lambda one: one.error)[:search.elite]
         if not elite:
@@ -486,6 +515,20 @@ def calibrate_limit(measured_days: Sequence[MeasuredDay], bounds: Bounds, search
     _, of_ratios = find_centre([Point(0, 0, one.point.factor * one.ratio) for one in last])
     return Calibration(Point(slowing, start, correct_factor(bounds, last)), spread._replace(factor=of_ratios.factor), tried,
                        measured_days[0][0].limit, fitted is not None, tuple(fit_day(bounds, tried, last, day) for day in range(len(measured_days))))
+
+
+def try_points(work: Callable[[tuple[Point, Sequence[int]]], list[Misfit]], points: Sequence[Point], number: int, days: int,
+               progress: Callable[[list[Trial]], None], jobs: int | None, executor: Executor | None, ship: bool) -> list[Trial]:
+    """Try the points of a round side by side, in their order, each on the same days. Each round has days of its own."""
+    seeds = range(10_000 * (number + 1), 10_000 * (number + 1) + days)
+    found = dict[int, Trial]()
+    with contextlib.closing(run_jobs(functools.partial(attempt, work), [(point, seeds) for point in points], jobs, executor, ship)) as running:
+        for done in running:
+            if done.error is not None or isinstance(done.value, Fault):
+                raise Fault(str(done.error or done.value))
+            found[done.job] = make_trial(points[done.job], number, cast(Sequence[Misfit], done.value))
+            progress(list(found.values()))
+    return [found[place] for place in range(len(points))]
 
 
 def make_trial(point: Point, number: int, by_day: Sequence[Misfit]) -> Trial:

@@ -6,7 +6,7 @@
 
 GEH = sqrt(2 (M - C)^2 / (M + C)) for M simulated and C measured cars of an *hour*. Five-minute rows are summed first. If at least five
 sixths of the rows of an hour are there, both sums are over these rows, and are scaled to the hour; otherwise it has no GEH. GEH grows with the number of lanes, so each table has it per lane, like all other figures, and for all lanes.
-Both speeds are time-mean speeds at a detector.
+Both speeds are means of the same kind: time-mean speeds at a detector, or, if the counts have them, space-mean speeds near the station.
 """
 from __future__ import annotations
 
@@ -17,15 +17,16 @@ from typing import Any, Callable, NamedTuple, Sequence
 
 from ..figures.intervals import Estimate, average_known, estimate_mean
 from ..figures.simulation import read_counts, simulate_days as run_days, split_window
-from ..figures.trips import DetectorCount, Window
+from ..figures.trips import Window
 from ..program.errors import Fault
 from ..program.lab import RoadLab
+from ..program.rows import Sums, add_up
 from ..program.wire import Record
 from ..roads.demand import Effort, Rates
 from ..roads.freeway import Figures, Road, convert_road_demands, make_road, to_rates, warm_up_minutes, widen_inlet, with_warm_up
 from ..roads.road_scripts import Chances, make_commands, make_plan, make_base_edits
-from ..roads.units import HOUR, count_things
-from .measured import Measured, Series
+from ..roads.units import HOUR, KMH, count_things
+from .measured import SPACE_MEAN, Measured, Series
 
 MOST_AT_INLET = 1_780.0
 """The largest demand of an inlet in cars per hour and lane. The cars above it enter in the following minutes."""
@@ -39,8 +40,29 @@ SAME_PLACE = 0.1
 """The distance in km within which a ramp of the road's file and a ramp station are the same ramp."""
 
 
-Day = list[list[DetectorCount]]
+NEAR = 20
+"""The cells before and after a station whose cars are near it."""
+
+
+class Passed(NamedTuple):
+    """The cars that passed a station in an interval, and the mean speed in km/h there, of the kind of the measured speeds (None without a car)."""
+
+    cars: int
+    speed: float | None
+
+
+Day = list[list[Passed]]
 """What passed each compared station in each interval."""
+
+
+class Run(NamedTuple):
+    """A simulated day, what passed the station that gives the demand, the rows of the window, and the cars that each inlet admitted in the whole
+    run."""
+
+    day: Day
+    first: list[Passed]
+    rows: Sequence[str]
+    admitted: Sequence[int]
 
 
 @dataclass(frozen=True)
@@ -139,32 +161,52 @@ def make_model(name: str, figures: Figures, measured: Measured, factor: float | 
     road.notes += notes
     # Detectors after the first inlet, and at and after each ramp, count the cars that enter.
     road.detectors += [1, *(gate for place, _ in road.inlets[1:] for gate in (place, place + 1))]
+    # The last detector is at the station that gives the demand.
+    road.detectors.append(min(max(road.to_cell(measured.main[0].station.km), road.approach, 1), road.length - 2))
     return Model(name, measured, given, road, convert_road_demands(road, effort, progress), figures.seed, warm * 60)
 
 
 # Days
 
-def simulate_day(model: Model, seed: int, with_rows: bool = False, with_entries: bool = False) -> tuple[Day, list[str], list[int]]:
-    """Simulate one day.
-
-    Return what passed the compared stations; with `with_rows` the rows of the window; with `with_entries` the cars that each
-    inlet admitted in the whole run."""
+def simulate_day(model: Model, seed: int, with_rows: bool = False, with_entries: bool = False) -> Run:
+    """Simulate one day. The run has rows only with `with_rows`, and admitted cars only with `with_entries`."""
     edits = make_commands([*make_base_edits(model.road, model.chances), *model.road.edits])
     with RoadLab(make_plan(model.road, model.chances, seed)) as lab:
         for line in edits:
             lab.ask(line)
         lab.command("advance", "A", to=model.warm + model.window_steps)
         window = Window(model.warm, model.warm + model.window_steps)
-        day = read_counts(lab, "A", model.detectors, split_window(window, model.measured.interval))
-        rows = lab.diagram("A", window.first, window.last - 1) if with_rows else []
+        are_space_means = model.measured.mean == SPACE_MEAN
+        *day, first = [[Passed(one.cars, one.time_mean_speed) for one in counts] for counts in
+                       read_counts(lab, "A", [*model.detectors, len(model.road.detectors) - 1], split_window(window, model.measured.interval))]
+        rows = lab.diagram("A", window.first, window.last - 1) if with_rows or are_space_means else []
         admitted = [sum(sign * lab.count("A", detector, 0, model.road.steps).cars for sign, detector in gates)
                     for gates in (model.gates if with_entries else ())]
-    return day, rows, admitted
+    if are_space_means:
+        *day, first = [[one._replace(speed=compute_space_mean(near)) for one, near in zip(passed, sum_near(model, rows, cell))]
+                       for passed, cell in zip([*day, first], [*model.road.detectors[:len(day)], model.road.detectors[-1]])]
+    return Run(day, first, rows if with_rows else [], admitted)
+
+
+def sum_near(model: Model, rows: Sequence[str], cell: int) -> list[Sums]:
+    """Return the sums over the cars near a cell in each interval."""
+    return sum_intervals(model, rows, max(cell - NEAR, 0), cell + NEAR)
+
+
+def sum_intervals(model: Model, rows: Sequence[str], first: int, last: int) -> list[Sums]:
+    """Return the sums over the cells `first` to `last - 1` in each interval."""
+    interval = model.measured.interval
+    return [add_up(rows[begin:begin + interval], first, last) for begin in range(0, model.window_steps, interval)]
+
+
+def compute_space_mean(sums: Sums) -> float | None:
+    """Return the space-mean speed in km/h, or None without a car."""
+    return sums.speeds / sums.cars * KMH if sums.cars else None
 
 
 def simulate_days(model: Model, days: int, progress: Callable[[int, int], None] | None = None) -> list[Day]:
     """Simulate days in parallel: the seed of the road, and the ones after it."""
-    return run_days(lambda seed: simulate_day(model, seed)[0], range(model.seed, model.seed + days), progress)
+    return run_days(lambda seed: simulate_day(model, seed).day, range(model.seed, model.seed + days), progress)
 
 
 # Hours
@@ -252,7 +294,7 @@ def compute_share_below(values: Sequence[float], bound: float = GOOD) -> float:
 
 class SpeedError(NamedTuple):
     """The speed error of a station: the number of intervals with both speeds, the RMSE in km/h, and the mean of simulated minus measured
-    speed in km/h. Both are time-mean speeds."""
+    speed in km/h. Both are means of the same kind."""
 
     station: str
     km: float
@@ -262,8 +304,8 @@ class SpeedError(NamedTuple):
 
 
 def compute_speed(days: Sequence[Day], index: int, place: int) -> float | None:
-    """Return the mean of the days' time-mean speeds of an interval in km/h, over the days with a car then, or None without a car."""
-    return average_known([day[index][place].time_mean_speed for day in days])
+    """Return the mean of the days' speeds of an interval in km/h, over the days with a car then, or None without a car."""
+    return average_known([day[index][place].speed for day in days])
 
 
 def compare_speeds(measured: Measured, days: Sequence[Day]) -> list[SpeedError]:
@@ -290,7 +332,7 @@ def compute_total_rmse(errors: Sequence[SpeedError]) -> float | None:
 # Records
 
 def make_interval_records(model: Model, days: Sequence[Day]) -> list[Record]:
-    """Return a record for each station and interval, for `pandas.DataFrame`: flows per lane, time-mean speeds."""
+    """Return a record for each station and interval, for `pandas.DataFrame`: flows per lane, and speeds of the measured kind."""
     found: list[Record] = []
     measured = model.measured
     for index, series in enumerate(measured.main[1:]):
@@ -301,8 +343,8 @@ def make_interval_records(model: Model, days: Sequence[Day]) -> list[Record]:
                           "time": measured.clock.to_text(place * measured.interval),
                           "measured cars/h/lane": None if cars is None else round(cars * HOUR / measured.interval, 1),
                           "simulated cars/h/lane": round(mean, 1), "± cars/h/lane": None if half is None else round(half, 1),
-                          "measured time-mean km/h": None if series.speeds[place] is None else round(series.speeds[place] or 0.0, 1),
-                          "simulated time-mean km/h": round_optional(compute_speed(days, index, place))})
+                          f"measured {measured.mean} km/h": None if series.speeds[place] is None else round(series.speeds[place] or 0.0, 1),
+                          f"simulated {measured.mean} km/h": round_optional(compute_speed(days, index, place))})
     return found
 
 

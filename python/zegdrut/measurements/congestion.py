@@ -9,15 +9,19 @@ The free speed of a station is the speed that 85 % of its measured intervals do 
 is below a share of that speed, by default 0.6: with a free speed of 97 km/h (60 mph) this is 58 km/h, close to the 35 mph below which
 Caltrans' Highway Congestion Monitoring Program counts a freeway as congested. As there, a jam lasts at least 15 minutes.
 
-The measured speed is the station's time-mean speed. The simulated one is the space-mean speed within 0.15 km of the station, averaged
-over the days: in the model only moving cars pass a detector, at 27 km/h or more, and most have left the jam, so that its time-mean
-speed in a jam is often twice a real one. In the simulation an interval is congested if it is on at least half of the days with a car.
+In the simulation a station interval is congested if the space-mean speed within 0.15 km of the station is below that share, on at least
+half of the days with a car. Measured speeds are usually time means, which are never below the space mean (Wardrop 1952). So where the
+counts are congested, the space mean is, too, and a measured jam can be judged by the simulated space mean. (The time mean would not do:
+in the model a car passes a detector at 27 km/h or more, and most have left the jam, so that a detector in a jam often shows twice a real
+speed.) Where the counts are not congested, the space mean may be. So for a simulated jam that the counts do not have, means of the same
+kind are compared: the counts deny it only if they fall less than half as far below the free speed as the simulated speeds. Errors of
+speeds also compare means of the same kind.
 
 Delay and travel time cover the stretch from the first to the last station with speeds. Each station stands for its segment, which ends
-halfway to the next station. The measured delay of an interval is cars x length x (1 / speed - 1 / free speed), the simulated one is
-summed over the cars on the segment in each step; both are summed over congested intervals only, and only where both a count and a speed
-were measured. A travel time is the sum over the segments of length / speed: of the station's speed if measured, of the segment's
-space-mean speed if simulated.
+halfway to the next station. The delay of an interval is cars x length x (1 / speed - 1 / free speed), by the cars and the speed at the
+station, and a travel time is the sum over the segments of length / speed. The simulation has both at its stations, with speeds of the
+measured kind, and also by all cars: the delay of the cars on the segment in each step, and the segment's space-mean speed. Delays are summed
+over congested intervals only, and only where both a count and a speed were measured.
 """
 from __future__ import annotations
 
@@ -27,12 +31,12 @@ from typing import Callable, NamedTuple, Sequence
 
 from ..figures.intervals import average_known
 from ..figures.simulation import simulate_days
-from ..program.rows import Sums, add_up
+from ..program.rows import Sums
 from ..roads.clock import Clock
 from ..roads.demand import Supply, count_demand
 from ..roads.units import CELLS_A_KM, HOUR, KMH, count_things
-from .comparison import Day, Model, estimate_days, simulate_day
-from .measured import Measured, Series
+from .comparison import Day, Model, Passed, compute_space_mean, compute_speed, estimate_days, simulate_day, sum_intervals, sum_near
+from .measured import SPACE_MEAN, Measured, Series
 
 CONGESTED = 0.6
 """Traffic is congested below this share of the free speed."""
@@ -42,25 +46,27 @@ SHORTEST_JAM, LONG_INTERVAL = 900, 300
 """The seconds that a jam lasts at least. In intervals below LONG_INTERVAL speeds vary so much that a jam is not congested in all of them."""
 MOST, LEAST = 2 / 3, 1 / 3
 """A jam is reproduced if at least MOST of its station intervals are congested in the simulation, and missed if fewer than LEAST are."""
+AS_DEEP = 0.5
+"""The counts deny a simulated jam if they fall by less than this share of the simulated fall below the free speed."""
+FAR, MOST_SHARE = 0.25, 0.95
+"""A jam is looked for up to so far above the share of `--congested`, and the greatest share."""
 SLOWEST = 1.0
 """Lower speeds in km/h count as this one."""
 LEAST_LOST = 0.02
 """The share of its demand that an inlet must lose: chances are accurate to 1 %."""
-NEAR = 20
-"""The cells before and after a station whose cars are near it."""
-
 States = list[list["bool | None"]]
 """Whether each station is congested in each interval. None: no speed is known."""
 
 
 class JudgedDay(NamedTuple):
     """A simulated day: what passed the compared stations, and for each interval the sums over the cars near each of them and over the cars
-    on each segment. `admitted` are the cars that entered at each inlet in the whole run."""
+    on each segment. `admitted` are the cars that entered at each inlet in the whole run, and `at` is what passed the station of each segment."""
 
     passed: Day
     near: list[list[Sums]]
     on: list[list[Sums]]
     admitted: Sequence[int] = ()
+    at: Sequence[list[Passed]] = ()
 
 
 class Intervals(NamedTuple):
@@ -100,6 +106,9 @@ class Judgement:
     free: SpeedOff
     interval: int
     """Seconds."""
+    speeds: Sequence[Sequence[float | None]] = ()
+    """The simulated mean speeds in km/h, of the kind of the measured ones."""
+    share: float = CONGESTED
 
     def count(self) -> Intervals:
         """Return how many station intervals with both speeds are congested."""
@@ -115,28 +124,27 @@ def find_free_speed(series: Series) -> float | None:
 
 def judge(measured: Measured, days: Sequence[JudgedDay], share: float = CONGESTED) -> Judgement:
     """Find the congested intervals of the compared stations, and compare the speeds in them and in the other intervals."""
-    known, drawn = States(), States()
+    drawn = States()
     off: dict[bool, list[float]] = {True: [], False: []}
+    speeds = [[compute_speed([day.passed for day in days], index, place) for place in range(measured.intervals)] for index in range(len(measured.main) - 1)]
     for index, series in enumerate(measured.main[1:]):
         bound = share * (find_free_speed(series) or 0.0)
-        known.append([None if speed is None else speed < bound for speed in series.speeds])
         drawn.append([is_simulated_congested(days, index, place, bound) if bound else None for place in range(measured.intervals)])
-        for place, speed in enumerate(series.speeds):
-            mean = average_known([space_mean(day.near[index][place]) for day in days])
+        for speed, mean in zip(series.speeds, speeds[index]):
             if speed is not None and mean is not None:
                 off[speed < bound].append(mean - speed)
-    return Judgement(known, drawn, summarize(off[True]), summarize(off[False]), measured.interval)
+    return Judgement(find_states(measured, share), drawn, summarize(off[True]), summarize(off[False]), measured.interval, speeds, share)
+
+
+def find_states(measured: Measured, share: float) -> States:
+    """Return whether the compared stations are congested in the counts."""
+    return [[None if speed is None else speed < share * (find_free_speed(series) or 0.0) for speed in series.speeds] for series in measured.main[1:]]
 
 
 def is_simulated_congested(days: Sequence[JudgedDay], index: int, place: int, bound: float) -> bool | None:
     """Return whether at least half of the days with a car near a station have a speed below a bound in km/h, or None without a car."""
-    slow = [speed < bound for day in days if (speed := space_mean(day.near[index][place])) is not None]
+    slow = [speed < bound for day in days if (speed := compute_space_mean(day.near[index][place])) is not None]
     return 2 * sum(slow) >= len(slow) if slow else None
-
-
-def space_mean(sums: Sums) -> float | None:
-    """Return the space-mean speed in km/h, or None without a car."""
-    return sums.speeds / sums.cars * KMH if sums.cars else None
 
 
 def summarize(off: Sequence[float]) -> SpeedOff:
@@ -202,11 +210,35 @@ def describe_jams(found: Judgement, measured: Measured) -> list[str]:
         if not known:
             sentences.append(f"{name}, where no speed was measured")
         elif sum(known) < LEAST * len(known):
-            sentences.append(f"{name} that was not measured")
+            sentences.append(f"{name} {describe_speeds_of_jam(jam, found, measured)}")
         elif not told.intersection(jam.places):
             sentences.append(f"{name}: the counts are congested in {sum(known)} of its {count_things(len(known), 'station interval')}, but never for "
                              f"{SHORTEST_JAM // 60} minutes in a row")
-    return sentences or [describe_free_traffic(found, clock, names)]
+    return [*(sentences or [describe_free_traffic(found, clock, names)]), *([] if jams else suggest_share(found, measured))]
+
+
+def describe_speeds_of_jam(jam: Jam, found: Judgement, measured: Measured) -> str:
+    """Return whether the counts deny a simulated jam in which they are not congested. A station that no simulated car passes has the speed 0."""
+    pairs = [(find_free_speed(series) or 0.0, speed, found.speeds[index][place] or 0.0) for index, place in jam.places
+             if (speed := (series := measured.main[index + 1]).speeds[place]) is not None]
+    free, known, drawn = (math.fsum(values) / len(pairs) for values in zip(*pairs))
+    speeds = f"{measured.mean} speeds there are {known:.0f} km/h measured and {drawn:.0f} km/h simulated, with a free speed of {free:.0f} km/h"
+    if free - known < AS_DEEP * (free - drawn):
+        return f"that was not measured: {speeds}"
+    return f"that the counts do not deny: {speeds}" + ("" if measured.mean == SPACE_MEAN else ". Time means of cars that pass a station hardly show a jam")
+
+
+def suggest_share(found: Judgement, measured: Measured) -> list[str]:
+    """Return how far the slowest station interval of the counts fell, and the share with which the counts have a jam, if it is near."""
+    ratios = [(speed / free, series.station.name, place) for series in measured.main[1:] if (free := find_free_speed(series))
+              for place, speed in enumerate(series.speeds) if speed is not None]
+    least, name, place = min(ratios)
+    if least >= found.share + FAR:
+        return []
+    steps = range(math.floor(found.share * 20 + 1.001), math.floor(min(found.share + FAR, MOST_SHARE) * 20 + 0.001) + 1)
+    share = next((step / 20 for step in steps if find_jams(find_states(measured, step / 20), found.interval)), None)
+    return [f"the slowest station interval of the counts has {least:.3f} of its free speed, at station {name} from "
+            f"{measured.clock.to_text(place * measured.interval)} on" + ("" if share is None else f": with --congested {share:g} the counts have a jam")]
 
 
 def describe_free_traffic(found: Judgement, clock: Clock, names: Sequence[str]) -> str:
@@ -267,12 +299,14 @@ def describe_lost(model: Model, days: Sequence[JudgedDay]) -> list[str]:
 # Delay and travel time
 
 class Segment(NamedTuple):
-    """The cells `first` to `last - 1`, for which a main-line station stands, and the free speed of the station in km/h."""
+    """The cells `first` to `last - 1`, for which a main-line station stands, the free speed of the station in km/h, and its index among
+    the stations."""
 
     series: Series
     first: int
     last: int
     free: float
+    number: int
 
     @property
     def km(self) -> float:
@@ -300,13 +334,12 @@ class Lost(NamedTuple):
 
 def list_segments(model: Model) -> list[Segment]:
     """Return the segments of the stations with speeds, or an empty list if fewer than two stations have speeds."""
-    known = [(one, free, min(max(model.road.to_cell(one.station.km), model.road.approach), model.road.length))
-             for one in model.measured.main if (free := find_free_speed(one)) is not None]
-    cells = [cell for _, _, cell in known]
+    known = [(one, free, index) for index, one in enumerate(model.measured.main) if (free := find_free_speed(one)) is not None]
+    cells = [min(max(model.road.to_cell(one.station.km), model.road.approach), model.road.length) for one, *_ in known]
     if len(known) < 2:
         return []
     ends = [cells[0], *((before + after) // 2 for before, after in zip(cells, cells[1:])), cells[-1]]
-    return [Segment(one, first, last, free) for (one, free, _), first, last in zip(known, ends, ends[1:])]
+    return [Segment(one, first, last, free, index) for (one, free, index), first, last in zip(known, ends, ends[1:])]
 
 
 def simulate_segments(model: Model, segments: Sequence[Segment], days: int,
@@ -317,29 +350,34 @@ def simulate_segments(model: Model, segments: Sequence[Segment], days: int,
 
 def simulate_segment_day(model: Model, segments: Sequence[Segment], seed: int) -> JudgedDay:
     """Simulate one day."""
-    day, rows, admitted = simulate_day(model, seed, with_rows=True, with_entries=True)
-    interval = model.measured.interval
-
-    def add_intervals(first: int, last: int) -> list[Sums]:
-        return [add_up(rows[begin:begin + interval], first, last) for begin in range(0, model.window_steps, interval)]
-
-    cells = model.road.detectors[:len(model.detectors)]
-    return JudgedDay(day, [add_intervals(max(cell - NEAR, 0), cell + NEAR) for cell in cells],
-                     [add_intervals(one.first, one.last) for one in segments], admitted)
+    run = simulate_day(model, seed, with_rows=True, with_entries=True)
+    return JudgedDay(run.day, [sum_near(model, run.rows, cell) for cell in model.road.detectors[:len(model.detectors)]],
+                     [sum_intervals(model, run.rows, one.first, one.last) for one in segments], run.admitted,
+                     [[run.first, *run.day][one.number] for one in segments])
 
 
-def compare_time_lost(segments: Sequence[Segment], days: Sequence[JudgedDay], share: float = CONGESTED) -> Lost | None:
-    """Compare delay and travel times of the stretch, or return None without segments."""
+def compare_time_lost(segments: Sequence[Segment], days: Sequence[JudgedDay], share: float = CONGESTED, at_stations: bool = False) -> Lost | None:
+    """Compare delay and travel times of the stretch, or return None without segments. The simulated ones are those of all cars on the road, or,
+    with `at_stations`, those that its stations show, by the formulas of the measured ones."""
     if not segments:
         return None
     places = range(len(segments[0].series.cars))
-    delays = [math.fsum(delay_of_day(one, day.on[index], share) for index, one in enumerate(segments)) for day in days]
-    delay = Both(math.fsum(measured_delay(one, share) for one in segments), *estimate_days(delays))
+
+    def delay_of(index: int, day: JudgedDay) -> float:
+        one = segments[index]
+        if not at_stations:
+            return delay_of_day(one, day.on[index], share)
+        return delay_at_station(one, [passed if is_counted(one, place) else Passed(0, None) for place, passed in enumerate(day.at[index])], share)
+
+    def find_speed(index: int, day: JudgedDay, place: int) -> float | None:
+        return day.at[index][place].speed if at_stations else compute_space_mean(day.on[index][place])
+    delays = [math.fsum(delay_of(index, day) for index in range(len(segments))) for day in days]
+    delay = Both(math.fsum(delay_at_station(one, list(zip(one.series.cars, one.series.speeds)), share) for one in segments), *estimate_days(delays))
     whole = [place for place in places if all(one.series.speeds[place] is not None for one in segments)]
     if not whole:
         return Lost(delay, None, None)
     known = [math.fsum(one.km * HOUR / max(one.series.speeds[place] or 0.0, SLOWEST) for one in segments) for place in whole]
-    drawn = [[math.fsum(one.km * HOUR / max(space_mean(day.on[index][place]) or one.free, SLOWEST) for index, one in enumerate(segments))
+    drawn = [[math.fsum(one.km * HOUR / max(find_speed(index, day, place) or one.free, SLOWEST) for index, one in enumerate(segments))
               for place in whole] for day in days]
     return Lost(delay, Both(math.fsum(known) / len(known), *estimate_days([math.fsum(times) / len(times) for times in drawn])),
                 Both(max(known), *estimate_days([max(times) for times in drawn])))
@@ -350,14 +388,13 @@ def is_counted(segment: Segment, place: int) -> bool:
     return segment.series.cars[place] is not None and segment.series.speeds[place] is not None
 
 
-def measured_delay(segment: Segment, share: float) -> float:
-    """Return the measured delay of a segment in vehicle hours, in its congested intervals."""
-    pairs = zip(segment.series.cars, segment.series.speeds)
-    return math.fsum(cars * segment.km * (1 / max(speed, SLOWEST) - 1 / segment.free) for cars, speed in pairs
+def delay_at_station(segment: Segment, passed: Sequence[tuple[float | None, float | None]], share: float) -> float:
+    """Return the delay of a segment in vehicle hours by the cars and speeds at its station, in its congested intervals."""
+    return math.fsum(cars * segment.km * (1 / max(speed, SLOWEST) - 1 / segment.free) for cars, speed in passed
                      if cars is not None and speed is not None and speed < share * segment.free)
 
 
 def delay_of_day(segment: Segment, sums: Sequence[Sums], share: float) -> float:
     """Return the delay of a simulated day on a segment in vehicle hours, in its congested intervals."""
     return math.fsum(one.cars - one.speeds * KMH / segment.free for place, one in enumerate(sums)
-                     if is_counted(segment, place) and (space_mean(one) or 0.0) < share * segment.free) / HOUR
+                     if is_counted(segment, place) and (compute_space_mean(one) or 0.0) < share * segment.free) / HOUR

@@ -30,6 +30,9 @@ LEAST_GAIN = 2.0
 """Counts fit clearly better at other times if their misfit is smaller by this factor."""
 LEAST_FALL, LEAST_FAR_GAIN = 0.75, 1.25
 """If both stations are on one side, the misfit to the nearer one must also fall by so much, and that to the other by this factor."""
+TIME_MEAN, SPACE_MEAN = "time-mean", "space-mean"
+"""What measured speeds may be: the mean over the cars that pass a station, or the mean over the cars on the road there, such as a harmonic mean or
+flow / density."""
 FEWEST_PAIRS = 12
 """The fewest intervals in which two stations are compared."""
 
@@ -60,6 +63,8 @@ class Measured:
     notes: list[str] = field(default_factory=list)
     cut: str = ""
     """Why stations downstream of the last one are not compared, if there are any."""
+    mean: str = TIME_MEAN
+    """What the speeds are. Simulated speeds are compared as the same mean."""
 
     @property
     def intervals(self) -> int:
@@ -395,8 +400,8 @@ def find_wrong_clocks(lines: list[Series], interval: int) -> dict[str, str]:
             names = " and ".join(other.station.name for other in sorted(others, key=lambda other: other.station.km))
             found[one.station.name] = (
                 f"the clock of station {one.station.name} seems to be about {minutes} minutes {'fast' if shift > 0 else 'slow'}: its counts fit those "
-                f"of {names} best {minutes} minutes {'earlier' if shift > 0 else 'later'}. Check it, and correct the times or use "
-                f"--leave-out {one.station.name}")
+                f"of {names} best {minutes} minutes {'earlier' if shift > 0 else 'later'}. Check it, and use "
+                f"--shift {one.station.name}={-shift * interval // 60} or --leave-out {one.station.name}")
     return found
 
 

@@ -40,6 +40,8 @@ MOST_SPEED = 250.0
 """The highest plausible mean speed in km/h. Higher speeds count as missing."""
 LEAST_FACTOR = 0.5
 """The least factor that corrects the counts of a station. The greatest is its inverse."""
+MOST_SHIFT = 720
+"""The most minutes that a clock is corrected."""
 HEADERS = {
     "time": ("time", "timestamp", "datetime", "begin", "start", "interval"),
     "km": ("km", "kilometre", "kilometer", "position"),
@@ -365,21 +367,33 @@ def read_time(path: Path, number: int, text: str) -> datetime.datetime | datetim
     raise Fault(f'{path}, line {number}: {text!r} is not a time: write "07:05", "2026-03-02 07:05" or "03/02/2026 07:05:00"')
 
 
-def correct_counts(counts: Counts, leave_out: Sequence[str] = (), factors: Mapping[str, float] = MappingProxyType({})) -> Counts:
-    """Return counts without some stations, and with the counts of some stations times a factor. Fault: a station is unknown, or a factor
-    is out of range."""
-    for name in (*leave_out, *factors):
+def correct_counts(counts: Counts, leave_out: Sequence[str] = (), factors: Mapping[str, float] = MappingProxyType({}),
+                   shifts: Mapping[str, float] = MappingProxyType({})) -> Counts:
+    """Return counts without some stations, with the counts of some stations times a factor, and with the times of some stations moved by so
+    many minutes. Fault: a station is unknown, or a factor or a shift is out of range."""
+    for name in (*leave_out, *factors, *shifts):
         if name not in counts.stations:
             raise Fault(f"{counts.path} has no station {name}: the stations are {', '.join(counts.stations)}")
     for name, factor in factors.items():
         if not LEAST_FACTOR <= factor <= 1 / LEAST_FACTOR:
             raise Fault(f"--scale {name}={factor:g}: the factor must be {LEAST_FACTOR:g} to {1 / LEAST_FACTOR:g}")
-    rows, repeated = ([row._replace(cars=None if row.cars is None else row.cars * factors.get(row.station, 1.0)) for row in each
-                       if row.station not in leave_out] for each in (counts.rows, counts.repeated))
+    for name, minutes in shifts.items():
+        if not abs(minutes) <= MOST_SHIFT:
+            raise Fault(f"--shift {name}={minutes:g}: the minutes must be {-MOST_SHIFT} to {MOST_SHIFT}")
+    rows, repeated = ([row._replace(cars=None if row.cars is None else row.cars * factors.get(row.station, 1.0),
+                                    time=move_time(row.time, shifts.get(row.station, 0.0))) for row in each if row.station not in leave_out]
+                      for each in (counts.rows, counts.repeated))
     notes = [*counts.notes, *(f"station {name} is left out" for name in leave_out),
-             *(f"the counts of station {name} are multiplied by {factor:g}" for name, factor in factors.items() if name not in leave_out)]
+             *(f"the counts of station {name} are multiplied by {factor:g}" for name, factor in factors.items() if name not in leave_out),
+             *(f"the times of station {name} are moved by {minutes:g} minutes" for name, minutes in shifts.items() if name not in leave_out)]
     return replace(counts, stations={name: one for name, one in counts.stations.items() if name not in leave_out}, rows=rows, repeated=repeated,
                    notes=notes)
+
+
+def move_time(time: datetime.datetime | datetime.time, minutes: float) -> datetime.datetime | datetime.time:
+    """Return a time some minutes later. A clock time may become one of the next day or of the day before."""
+    moved = datetime.timedelta(minutes=minutes)
+    return time + moved if isinstance(time, datetime.datetime) else (datetime.datetime.combine(datetime.date(2000, 1, 2), time) + moved).time()
 
 
 # Checks
@@ -400,8 +414,11 @@ def check_rows(counts: Counts) -> Counts:
         last[row.station] = row
     counts.rows = list(seen.values())
     note_lines(counts, late, "row is out of order in time: it is sorted", "rows are out of order in time: they are sorted")
-    order = [station.km for station in counts.stations.values() if not station.is_ramp]
-    if order != sorted(order) and order != sorted(order, reverse=True):
+    orders: dict[object, list[float]] = {}
+    for row in counts.rows:
+        if not (station := counts.stations[row.station]).is_ramp:
+            orders.setdefault(row.time, []).append(station.km)
+    if any(order not in (sorted(order), sorted(order, reverse=True)) for order in orders.values()):
         counts.notes.append(f"{counts.path}: its stations are out of order along the road: they are sorted by km")
     return counts
 
