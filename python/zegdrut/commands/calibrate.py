@@ -187,15 +187,16 @@ def format_days(days: Sequence[MeasuredDay], found: Calibration) -> list[str]:
 
 def describe_errors(found: Calibration, figures: Figures) -> list[str]:
     """Return the errors of the result and of the drivers of the file, and whether both fit equally well within chance."""
-    if found.result is None or found.own is None:
+    if not found.last or found.own is None:
         return []
+    result = found.last[0].error
     drivers = f"the drivers of the file (limit {figures.limit:g} km/h, slowing {found.own.point.slowing:g}, slow-to-start {found.own.point.start:g})"
     if not math.isfinite(found.own.error):
-        return [f"error {found.result.error:.1f} of the result; {drivers} do not admit the demand"]
-    off, chance = found.own.error - found.result.error, find_chance(found)
+        return [f"error {result:.1f} of the result; {drivers} do not admit the demand"]
+    off, chance = found.own.error - result, find_chance(found)
     verdict = "" if chance is None else (f", and errors less than {chance:.1f} apart fit equally well within chance: the drivers of the file fit "
                                          + ("as well" if abs(off) < chance else "worse" if off > 0 else "better: try more points"))
-    return [f"error {found.result.error:.1f} of the result, and {found.own.error:.1f} of {drivers}, on the same simulated days. Chance alone makes about "
+    return [f"error {result:.1f} of the result, and {found.own.error:.1f} of {drivers}, on the same simulated days. Chance alone makes about "
             f"{CHANCE_ERROR}{verdict}"]
 
 
@@ -255,7 +256,7 @@ def run_calibration(given: argparse.Namespace, out: Path) -> None:
     calibrated = dataclasses.replace(make_calibrated(figures, measured, best), calibration=None)
     path = folder / f"calibrated-{name}.json"
     write_road(path, given.road, calibrated)
-    (folder / f"tried-{name}.csv").write_text("".join(f"{line}\n" for line in format_trials(found.tried)), encoding="utf-8")
+    (folder / f"tried-{name}.csv").write_text("".join(f"{line}\n" for line in format_trials([*found.tried, *found.last])), encoding="utf-8")
     (folder / f"surface-{name}.svg").write_text(draw_surface(found), encoding="utf-8")
     alternatives = find_alternatives(found)
     if alternatives is None:
@@ -281,8 +282,8 @@ def search_limits(given: argparse.Namespace, days: Sequence[MeasuredDay], bounds
     bar, best = Bar("points", in_log=True), dict[float, Trial]()
 
     def show(done: int, total: int, trial: Trial) -> None:
-        limit = limits[(done - 1) // search.total]
-        best[limit] = min(best.get(limit, trial), trial, key=lambda one: one.error)
+        for limit in limits[(done - 1) // search.total:][:1]:  # (none in the last round)
+            best[limit] = min(best.get(limit, trial), trial, key=lambda one: one.error)
         bar.show(done, total, describe_best(trial))
     try:
         with open_executor(given.dask) as executor:
@@ -371,11 +372,11 @@ def measure_alternatives(given: argparse.Namespace, alternatives: Alternatives, 
 
 def describe_alternatives(alternatives: Alternatives, found: Calibration, sure: Sure, congestion: Congestion) -> str:
     """Return a sentence on the delay, measured and simulated, and how far it moves over the points that fit as well."""
-    later = sum(bool(one.round) for one in found.tried)
+    later = sum(bool(one.round) for one in (*found.tried, *found.last))
     at_stations = "" if congestion.delay_at_stations is None else f" and {format_both(congestion.delay_at_stations)} simulated"
     return (f"delay of congested traffic in vehicle hours per lane: by the cars that pass the stations {sure.delay.measured:.1f} measured{at_stations}, by all "
             f"cars between them {format_both(sure.delay)} simulated. Calibration: {sure.describe()} ({alternatives.points} of {later} points, with errors up to "
-            f"{alternatives.most_error:.1f}). ± does not include this")
+            f"{alternatives.chance:.1f} above the smallest). ± does not include this")
 
 
 def main(words: Sequence[str] | None = None, out: Path = Path("out")) -> int:

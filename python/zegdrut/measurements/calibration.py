@@ -32,7 +32,8 @@ standard deviation of the errors that the simulated days of a point have alone, 
 single day, too.) `find_alternatives` returns those two of these points whose drivers cause the least and the most delay. The delay of a
 few days varies by chance, so the points are compared by a plane that is fitted to the logarithms of their delays over both chances.
 These points may lie on one side of the result. So after the search a last round tries the points opposite them. It also tries the result
-and the drivers of the file, all on the same new days.
+and the drivers of the file, all on the same new days. Since all errors of a round depend on its days, the points of the last round are
+compared with the smallest error of that round.
 """
 from __future__ import annotations
 
@@ -153,10 +154,10 @@ class Calibration:
     """Whether the best point is the minimum of a quadratic. Otherwise it is the mean of the elites, which is less accurate."""
     of_days: tuple[Point, ...] = ()
     """The result of each measured day alone, from the same trials."""
-    result: Trial | None = None
-    """The trial of the best point, if the last round was made."""
+    last: tuple[Trial, ...] = ()
+    """The trials of the last round: of the best point, and of the points opposite those that fit as well."""
     own: Trial | None = None
-    """The trial of the drivers and the limit of the file on the same days, if the last round was made."""
+    """The trial of the drivers and the limit of the file in the last round."""
 
     @property
     def least_error(self) -> float:
@@ -385,7 +386,7 @@ def calibrate(name: str, days: Sequence[MeasuredDay], bounds: Bounds = Bounds(),
     """Fit the parameters to the counts and speeds of a road: search each limit, and return the calibration with the smallest error.
 
     days: the figures of the road and the counts of each measured day. jobs: processes; None: one for each processor.
-    progress: gets the number of points tried, the number of all points, and the best trial of the round.
+    progress: gets the number of points tried, the number of all points, and the best trial of the round. The last round adds its points to both.
     executor: simulates the points, in the form of `concurrent.futures`. ship: send this package and the program to its workers.
 
     Fault: no point within the bounds admits the demand at any limit, or the road cannot be made. NoWorker: a worker of the executor
@@ -404,21 +405,26 @@ def calibrate(name: str, days: Sequence[MeasuredDay], bounds: Bounds = Bounds(),
             faults.append(fault)
     if not found:
         raise faults[0]
-    return check_result(name, days, min(found, key=lambda one: one.least_error), bounds, search, jobs, executor, ship)
+
+    def tell_last(done: int, whole: int, best: Trial) -> None:
+        progress(total + done, total + whole, best)
+    return check_result(name, days, min(found, key=lambda one: one.least_error), bounds, search, tell_last, jobs, executor, ship)
 
 
 # How sure the result is
 
-def check_result(name: str, days: Sequence[MeasuredDay], found: Calibration, bounds: Bounds, search: Search, jobs: int | None,
-                 executor: Executor | None, ship: bool) -> Calibration:
+def check_result(name: str, days: Sequence[MeasuredDay], found: Calibration, bounds: Bounds, search: Search,
+                 progress: Callable[[int, int, Trial], None], jobs: int | None, executor: Executor | None, ship: bool) -> Calibration:
     """Make the last round: try the result, the points opposite those that fit as well, and the drivers of the file, on the same new days."""
-    def try_new(days: Sequence[MeasuredDay], points: Sequence[Point]) -> list[Trial]:
-        return try_points(functools.partial(evaluate_alone, name, days), points, search.rounds, search.days, lambda trials: None, jobs, executor, ship)
-    limited = [(dataclasses.replace(figures, limit=found.limit), measured) for figures, measured in days]
-    result, *opposite = try_new(limited, [found.best, *list_opposite(found, bounds)])
-    figures = days[0][0]
-    own, = try_new(days, [Point(figures.slowing, figures.start or 0.0, 1.0)])
-    return dataclasses.replace(found, tried=[*found.tried, result, *opposite], result=result, own=own)
+    figures, points = days[0][0], [found.best, *list_opposite(found, bounds)]
+
+    def try_new(days: Sequence[MeasuredDay], new: Sequence[Point], before: int) -> list[Trial]:
+        def tell(trials: list[Trial]) -> None:
+            progress(before + len(trials), len(points) + 1, min(trials, key=lambda one: one.error))
+        return try_points(functools.partial(evaluate_alone, name, days), new, search.rounds, search.days, tell, jobs, executor, ship)
+    last = tuple(try_new([(dataclasses.replace(one, limit=found.limit), measured) for one, measured in days], points, 0))
+    own, = try_new(days, [Point(figures.slowing, figures.start or 0.0, 1.0)], len(points))
+    return dataclasses.replace(found, last=last, own=own)
 
 
 def list_opposite(found: Calibration, bounds: Bounds) -> list[Point]:
@@ -437,16 +443,18 @@ def find_chance(found: Calibration) -> float | None:
 
 
 def list_equal(found: Calibration, chance: float) -> list[Trial]:
-    """Return the trials after the first round that fit as well as the best."""
-    return [one for one in found.tried if one.round and one.error <= found.least_error + chance]
+    """Return the trials after the first round that fit as well as the best of the search or of the last round."""
+    least = min((one.error for one in found.last), default=0.0)
+    return [one for one in found.tried if one.round and one.error <= found.least_error + chance] + [
+        one for one in found.last if one.error <= least + chance]
 
 
 class Alternatives(NamedTuple):
-    """The drivers of the points that fit as well as the best within chance: the number of these points, the largest error that they may
-    have, and the two of them whose drivers cause the least and the most delay."""
+    """The drivers of the points that fit as well as the best within chance: the number of these points, how far their errors may be above
+    the smallest, and the two of them whose drivers cause the least and the most delay."""
 
     points: int
-    most_error: float
+    chance: float
     less: Point
     more: Point
 
@@ -469,7 +477,7 @@ def find_alternatives(found: Calibration) -> Alternatives | None:
     of_slowing, of_start = fit_slopes([one.point[:2] for one in equal], delays)
     # Without any delay both slopes are 0. Then the slow-to-start chance decides, which will matter in a jam.
     ranked = sorted((one.point for one in equal), key=lambda point: of_slowing * point.slowing + (of_start + FLAT) * point.start)
-    return Alternatives(len(equal), found.least_error + chance, ranked[0], ranked[-1])
+    return Alternatives(len(equal), chance, ranked[0], ranked[-1])
 
 
 def fit_slopes(places: Sequence[tuple[float, float]], values: Sequence[float]) -> Sequence[float]:
