@@ -76,7 +76,7 @@ class Acts(Case):
         self.assertEqual([line[name] for name in ("name", "shape", "kind", "who", "note", "standing", "shared", "height")],
                          [stamp, CLOSED, "block", "Ada", "Closed 3 km", True, False, stamp])
         self.assertEqual(line["shown"], [["block", 60, 69, 30, 60, 1, None]])
-        self.assertAlmostEqual(line["when"], self.ada.welcome["time"], delta=60)
+        self.assertAlmostEqual(line["when"], self.ada.welcome["time"], delta=600)
         again = await self.ada.ask("gesture", key="1", shape=SLOW)
         self.assertEqual((again["stamp"], again["again"], again["layers"]), (stamp, True, []))
         self.assertEqual(await numbers(self.ada), closed(60, 69, 30, 60))
@@ -303,7 +303,7 @@ class Acts(Case):
         said = await self.ben.ask("send", name="shared", title="two")
         self.assertEqual((said["size"], said["stamps"], said["touched"]), (2, [one, other], 5))
         self.assertEqual(await limit_at(self.ada), 1)
-        news = [one["news"] for one in self.ada.received if "news" in one][-1]
+        news: Any = await self.news_with(self.ada, "two")
         self.assertEqual((news["size"], news["from"], news["touched"], news["shares"][0]["title"]), (2, ["Ben"], 5, "two"))
         self.assertEqual([one["note"] for one in news["changes"]], ["", "his"])
         took = await self.ada.ask("take", message="shared")
@@ -314,6 +314,13 @@ class Acts(Case):
                                                    ("limit", 2, 70): 5, ("limit", 3, 50): 3, ("limit", 3, 60): 5})
         self.assertEqual((await self.ada.ask("take", message="shared"))["size"], 0)
         self.assertGreater(await put_layer(self.ada, "2", SLOW), other)  # above all that it holds
+
+    async def news_with(self, seat: Seat, title: str) -> Any:
+        """Wait for news of a share with this title. Return the latest news."""
+        async def has_come() -> bool:
+            return any(share["title"] == title for one in seat.received if "news" in one for share in one["news"]["shares"])
+        await until(has_come, f"news of {title}")
+        return [one["news"] for one in seat.received if "news" in one][-1]
 
     async def test_an_operation_has_one_time_at_all_seats(self) -> None:
         """It is the time at which it was made, and not that at which it was shared or taken."""

@@ -489,8 +489,11 @@ class Folders(Case):
             said = await ada.reply("gesture", at=ada.at, key="x", shape=["limit", 2, 2, 50, None, 1])
             self.assertEqual(said["refused"], "NotWritten")
             self.assertIn("Read-only file system", said["why"])
-            trouble = ada.welcome["trouble"] or next(one["trouble"] for one in reversed(ada.received) if "trouble" in one)
-            self.assertIn("Read-only file system", str(trouble))
+
+            async def is_told() -> bool:
+                told = [ada.welcome["trouble"], *(one["trouble"] for one in ada.received if "trouble" in one)]
+                return "Read-only file system" in str(told[-1])
+            await running.until(is_told, "the trouble is told")
             async with server.seat("Ben") as ben:  # somebody who joins now can look, too
                 self.assertEqual((await ben.ask("scenario"))["edits"], [])
                 said = await ben.reply("gesture", at=ben.at, key="x", shape=["limit", 2, 2, 50, None, 1])

@@ -1,15 +1,19 @@
 """Test one browser on a freeway: the form for typed values, the figures that it shows, what it saves; names and tokens."""
 from __future__ import annotations
 
+import contextlib
 import csv
 import json
 import math
+import os
 import re
+import signal
 import subprocess
+from pathlib import Path
 from typing import Any
 
 from browsers import FREE_ROAD, FREEWAY, TOP, BrowserCase, Tab, preview_rows, example_rows, free_server, operations_of, shapes_of
-from running import program
+from running import descendants, program
 from selenium.webdriver.common.action_chains import ActionChains
 from selenium.webdriver.common.by import By
 from selenium.webdriver.common.keys import Keys
@@ -64,7 +68,7 @@ class OneFreeway(BrowserCase):
 
     def test_clicks_do_not_wait_for_measurements_of_inlets(self) -> None:
         """Join a road with thirty inflow chances that were put without a demand. Measuring what the inlets admit takes seconds
-        for each. The clock runs at the first click all the same."""
+        for each; here it never ends. The clock runs at the first click all the same."""
         tab, = self.open(FREEWAY)
         tab.driver.execute_async_script("""
             const [done] = arguments;
@@ -79,6 +83,7 @@ class OneFreeway(BrowserCase):
         tab.driver.refresh()
         tab.until(lambda: tab.text("line").startswith("connected"), "connected")
         tab.until(lambda: tab.script("return countCurves()[1]") >= 15, "it asks what inlets admit")
+        tab.until(self.stop_measuring, "the server measures")
         tab.press("Run an hour")
         tab.until(lambda: tab.text("clock") == "1:00:00", "the clock")
         done, every = tab.script("return countCurves()")
@@ -98,6 +103,15 @@ class OneFreeway(BrowserCase):
         self.assertRegex(tab.text("said"), r"0:20:00–0:30:00; 1 change is waiting\.")
         tab.press("Cancel", "#own")
         self.assertEqual([line for line in tab.lines("own") if "waiting" in line], [])
+
+    def stop_measuring(self) -> bool:
+        """Stop the process that measures what inlets admit. Return whether there is one."""
+        for process in descendants(self.server.process.pid):
+            with contextlib.suppress(OSError):  # another one has ended just now
+                if b"server.figures.admission" in Path(f"/proc/{process}/cmdline").read_bytes():
+                    os.kill(process, signal.SIGSTOP)
+                    return True
+        return False
 
     def test_a_demand_is_shown_as_it_was_asked_for(self) -> None:
         """The demand of the road's file is a table, and not lines of the lists and the report. A demand that a person put is

@@ -79,9 +79,9 @@ class Collections(unittest.TestCase):
         self.addCleanup(gc.callbacks.pop)
         some: list[Callable[[], object]] = [keep_collections_short, gc.collect, gc.collect]
         for collects in some:
-            held.append([[number] for number in range(300_000)])
+            held.append([[number] for number in range(600_000)])
             collects()
-            self.assertLess(len(gc.get_objects()), 290_000)
+            self.assertLess(len(gc.get_objects()), 590_000)
         held.append([[number] for number in range(100)])
         gc.collect()
         self.assertGreater(len(gc.get_objects()), 100)  # a short collection is not reported
