@@ -8,7 +8,7 @@ import {hearDays} from "./comparison.mjs";
 import {curveAt} from "./measurements.mjs";
 import {Connection, TAKEN_OVER} from "./connection.mjs";
 import {DayClock} from "./dayclock.mjs";
-import {loadSeats, remember, remembered, storeSeat} from "./storage.mjs";
+import {loadChosen, loadSeats, remember, remembered, storeSeat} from "./storage.mjs";
 import {Layers} from "./layers.mjs";
 import * as messages from "./messages.mjs";
 import {Road} from "./rows.mjs";
@@ -136,7 +136,8 @@ async function welcome(said) {
   sessionStorage.setItem("key", said.key);
   sessionStorage.setItem("name", said.name);
   sessionStorage.removeItem("asks");
-  storeSeat(said);
+  const chosen = store.plan ? store.chosen : loadChosen(said);
+  storeSeat(said, chosen);
   assign(store, {me: said, limits: said.most ?? store.limits, programNote: said.standing ?? "",
                  closedNote: remembered("closed"), day: new DayClock(said.day ?? {}, said.lead)});
   assign(store.clock, {now: said.now, rate: said.rate});
@@ -156,7 +157,7 @@ async function welcome(said) {
   }
   restorePending();
   const sent = [...store.pending.keys()].map(send);
-  takeVariants(said.variants ?? []);
+  takeVariants(said.variants ?? [], chosen);
   await Promise.all([...sent, refreshChanges("mine"), refreshChanges("shared"), renewFixed(), askPreview()]);
   HANDLERS.clock(store.clock);
 }

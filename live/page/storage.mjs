@@ -1,5 +1,6 @@
 // What is kept over a reload: pending changes in the tab's storage, until they are confirmed; and in
-// that of the browser its seats, so that it has them again after it was closed.
+// that of the browser its seats, so that it has them again after it was closed, and the roads that are
+// chosen in them.
 
 /** @typedef {import("./types.mjs").Pending} Pending */
 
@@ -66,7 +67,11 @@ export function remember(name, text) {
 }
 
 const MOST_SEATS = 8;           // seats that a browser keeps
-/** @typedef {{seat: number, key: string}} KeptSeat */
+/** @typedef {import("./types.mjs").RoadName} RoadName */
+/**
+ * A seat, and the roads that are chosen in it, which an older page did not keep.
+ * @typedef {{seat: number, key: string, chosen?: RoadName[]}} KeptSeat
+ */
 
 /** Return the seats that this browser had, the latest last.
  * @returns {KeptSeat[]}
@@ -81,10 +86,18 @@ export function loadSeats() {
   }
 }
 
-/** Keep a seat as the latest.
- * @param {KeptSeat} kept
+/** Return the roads that were chosen in a seat.
+ * @param {{seat: number, key: string}} of
+ * @returns {RoadName[]}
  */
-export function storeSeat({seat, key}) {
-  const seats = [...loadSeats().filter((one) => one.seat !== seat), {seat, key}];
+export const loadChosen = ({seat, key}) =>
+  loadSeats().find((one) => one.seat === seat && one.key === key)?.chosen ?? [];
+
+/** Keep a seat as the latest, with the roads that are chosen in it.
+ * @param {{seat: number, key: string}} of
+ * @param {RoadName[]} chosen
+ */
+export function storeSeat({seat, key}, chosen) {
+  const seats = [...loadSeats().filter((one) => one.seat !== seat), {seat, key, chosen}];
   remember("seats", JSON.stringify(seats.slice(-MOST_SEATS)));
 }

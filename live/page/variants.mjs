@@ -11,6 +11,7 @@ import {refreshDiagram, setOpen} from "./navigation.mjs";
 import * as messages from "./messages.mjs";
 import {roadOfVariant, variantOf} from "./roadnames.mjs";
 import {Road} from "./rows.mjs";
+import {storeSeat} from "./storage.mjs";
 import {layersOf, need, notify, roadOf, store, tell} from "./store.mjs";
 
 /** @typedef {import("./types.mjs").RoadName} RoadName */
@@ -54,16 +55,17 @@ export async function removeVariant(name) {
   tell(messages.variantRemoved(name));
 }
 
-/** Note which variants the seat has. Roads of others are no longer chosen.
+/** Note which variants the seat has. Of the chosen roads, those of other variants are no longer chosen.
  * @param {string[]} variants
+ * @param {RoadName[]} [chosen]
  */
-export function takeVariants(variants) {
+export function takeVariants(variants, chosen = store.chosen) {
   store.variants = variants;
-  const left = store.chosen.filter((road) => {
+  const left = chosen.filter((road) => {
     const name = variantOf(road);
     return name === null || variants.includes(name);
   });
-  if (left.length < store.chosen.length) chooseRoads(left);
+  if (left.length !== store.chosen.length) chooseRoads(left);
   else {
     keepRoads();
     notify("variants");
@@ -130,6 +132,7 @@ function chooseRoads(chosen) {
   const were = store.chosen.length > 1;
   dropDays();
   assign(store, {chosen});
+  storeSeat(need("me"), chosen);
   keepRoads();
   if (chosen.length < 2 && store.whose === "beside") store.whose = "mine";
   if (chosen.length > 1 && !were) store.whose = "beside";

@@ -255,13 +255,16 @@ class Tab:
         path, = set(self.saved(file)) - before
         return path
 
-    def save_both(self, name: str, file: str) -> list[Path]:
-        """Save two files by one press: those of the own road and of the shared one, in this order."""
+    def save_several(self, name: str, file: str, count: int) -> list[Path]:
+        """Save several files by one press, and return them."""
         self.open_part("save")
         self.press(name, "#save")
-        is_shared = lambda path: "-shared-" in path.name
-        self.until(lambda: any(map(is_shared, self.saved(file))) and len(self.saved(file)) == 2, f"two of {file}")
-        return sorted(self.saved(file), key=is_shared)
+        self.until(lambda: len(self.saved(file)) == count, f"{count} of {file}")
+        return self.saved(file)
+
+    def save_both(self, name: str, file: str) -> list[Path]:
+        """Save two files by one press: those of the own road and of the shared one, in this order."""
+        return sorted(self.save_several(name, file, 2), key=lambda path: "-shared-" in path.name)
 
     def saved(self, file: str) -> list[Path]:
         """Return the saved files whose names begin and end as this one's. (Chromium first makes an empty file of the name, and then

@@ -163,9 +163,9 @@ class Variants(BrowserCase):
         self.assertEqual([line.split(",")[0] for line in said[1:]], ["road", "“night”", "“noon”"])
         for line, (begin, end) in zip(said[2:], CLOSED.values(), strict=True):
             self.assertIn(f"Closed 0.45–0.458 km, 0:{begin // 60:02}:00–0:{end // 60:02}:00", line)
-        tab.save("Scripts", "script.jsonl")
+        saved = tab.save_several("Scripts", "script.jsonl", 3)
         tab.until(lambda: "road_lab runs each, and recipes/delay compares two of them" in tab.text("said"), "the scripts")
-        names = sorted(path.name.removeprefix("script-plan-").partition("-0000")[0] for path in tab.saved("script.jsonl"))
+        names = sorted(path.name.removeprefix("script-plan-").partition("-0000")[0] for path in saved)
         self.assertEqual(names, ["night", "noon", "shared"])
 
     def lists(self, tab: Tab) -> list[list[str]]:
@@ -196,9 +196,15 @@ class Variants(BrowserCase):
         tab.until(lambda: tab.text("said") == "“night” is no longer kept.", "it is removed")
         self.assertEqual(tab.script("return [store.whose, figureRoads()]"), ["mine", ["shared", "mine"]])
         self.assertFalse(tab.part("besideChoice").is_displayed())
-        tab.driver.refresh()
-        tab.until(lambda: tab.text("line").startswith("connected"), "connected")
-        tab.settled()
+        self.choose("“noon”")
+        self.load_again()
+        self.assertEqual(tab.script("return [store.whose, figureRoads()]"), ["beside", ["mine", "variant:noon"]])
+        self.assertEqual(self.pixel(tab, tab.script("return widthNow()")[1], 360), COLOURS["#"])
+        tab.open_part("roadsPart")
+        self.assertEqual(self.chosen(), ["mine", "“noon”"])
+        self.choose("mine", "“noon”")
+        self.load_again()
+        self.assertEqual(tab.script("return [store.whose, store.chosen]"), ["mine", []])
         self.assertEqual(tab.script("return [...document.querySelectorAll('#roadList label')].map((one) => one.textContent.trim())"),
                          ["shared", "mine", "the file's road", "“noon”"])
         tab.open_part("roadsPart")
@@ -207,6 +213,26 @@ class Variants(BrowserCase):
         self.assertEqual(len(self.table(tab, "figures")[0]), 7)
         self.choose("mine", "shared", "“noon”")
         self.assertEqual(tab.script("return [store.whose, store.chosen, figureRoads()]"), ["mine", ["file"], ["shared", "mine"]])
+
+    def load_again(self) -> None:
+        self.tab.driver.refresh()
+        self.tab.until(lambda: self.tab.text("line").startswith("connected"), "connected")
+        self.tab.settled()
+
+    def chosen(self) -> list[str]:
+        """Return the roads whose boxes are checked, in the order of the list."""
+        found: list[str] = self.tab.script("""
+            return [...document.querySelectorAll("#roadList > li")].filter((one) => one.querySelector("input").checked)
+              .map((one) => one.querySelector("label").textContent.trim());""")
+        return found
+
+    def test_a_chosen_variant_that_is_gone_is_not_chosen_after_a_reload(self) -> None:
+        tab = self.tab
+        self.name_both()
+        self.choose("shared", "“night”", "“noon”")
+        tab.driver.execute_async_script('ask({variant: {at: store.me.at, name: "night", drop: true}}).then(arguments[0])')  # unnoticed
+        self.load_again()
+        self.assertEqual(tab.script("return [store.whose, figureRoads()]"), ["beside", ["shared", "variant:noon"]])
 
     def test_at_most_four_roads_are_side_by_side(self) -> None:
         tab = self.tab
