@@ -151,6 +151,16 @@ class Roads(Case):
                 points.append((chances, curve["points"]))
         self.assertEqual(points[0], points[1])
 
+    async def test_what_an_inlet_admits_beside_a_ramp_at_km_0(self) -> None:
+        """The main road, that ramp and the next one have curves, by which their chances give the demands of the file."""
+        server = self.server(plan={**KM, "main": 900, "ramps": [[0, 200], [0.45, 150]], "sections": [], "stalled": []})
+        async with server.seat() as ada:
+            chances = [chance for _, chance in ada.welcome["plan"]["inlets"]]
+            for inlet, demand in enumerate((900, 200, 150)):
+                curve = await ada.say("admission", inlet=inlet, start=None, before=[*enumerate(chances[:inlet])])
+                (low, less), (high, more) = next((one, other) for one, other in zip(curve["points"], curve["points"][1:]) if one[0] <= chances[inlet] <= other[0])
+                self.assertAlmostEqual(less + (more - less) * (chances[inlet] - low) / (high - low), demand, delta=5)
+
     async def test_files(self) -> None:
         """The table of counts, the report and the tables of changes have km from km 0 and times from minute 0."""
         server, last = self.server(plan=KM), LEAD + 600

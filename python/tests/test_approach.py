@@ -19,7 +19,7 @@ from zegdrut.commands.freeway import FIGURES
 from zegdrut.commands.measured import draw_space_time, find_places
 from zegdrut.commands.metering import Control, make_minute_table, make_site, run_again, run_day as simulate_metered_day
 from zegdrut.figures.queues import run_day
-from zegdrut.figures.trips import Trips, Window
+from zegdrut.figures.trips import Trips, Window, count_admitted_cars
 from zegdrut.measurements.comparison import make_model, simulate_day
 from zegdrut.measurements.congestion import list_segments
 from zegdrut.measurements.measured import Measured, Series
@@ -145,6 +145,13 @@ class Traffic(unittest.TestCase):
         for before, after in zip(counts[0][1:], counts[1][1:]):
             self.assertLess(abs(before - after), 3 * math.sqrt(before + after), counts)
         self.assertLess(abs(hours[0] / hours[1] - 1), 0.06, hours)
+
+    def test_a_ramp_at_km_0(self) -> None:
+        """Its chance admits its demand in the first cell after the approach."""
+        road = make_road(dataclasses.replace(PLAIN, approach=0.6, ramps=[(0.0, 300)], minutes=600))
+        self.assertEqual([cell for cell, _ in road.inlets], [0, 80])
+        run = run_day(make_script(road, measure_chances(road), 5), None, Window(0, road.steps))
+        self.assertAlmostEqual(count_admitted_cars(run.trips, run.window)[1], 3_000, delta=3 * math.sqrt(3_000))
 
     def test_a_queue(self) -> None:
         """A closure whose queue is longer than the road costs as many vehicle hours with an approach as on a road that is longer from the beginning,

@@ -13,6 +13,7 @@ from zegdrut.program.grammar import LAST_HORIZON
 from zegdrut.program.rows import count_cars
 from zegdrut.program.wire import WrittenEdit
 from zegdrut.roads.clock import Clock
+from zegdrut.roads.freeway import leave_out_approach
 from zegdrut.roads.units import Units
 
 from ..figures import admission, comparison, figures, files, report
@@ -257,13 +258,14 @@ class Questions:
         """Return how many cars an inlet admits at each inflow chance, with the plan's drivers and the traffic from inlets upstream, whose
         indexes and chances are `before`. `start` is the slow-to-start chance of the inlet's zone at step 0, or None. An approach changes
         no flow, so it is left out."""
-        plan, origin = self._keeper.state.plan, self._units.origin
+        plan = self._keeper.state.plan
         cell = plan["inlets"][inlet][0]
         limit, slowing = plan["zones"][cell // plan["zone"]]
-        beside = sorted((max(plan["inlets"][one][0] - origin, 0), chance_of) for one, chance_of in before if chance_of)
+        free = leave_out_approach([place for place, _ in plan["inlets"]], self._units.origin)
+        beside = sorted((free[one], chance_of) for one, chance_of in before if chance_of)
         entry = find_entry(plan, cell) if beside else 0
         return await self._curves.find_curve({"limit": limit, "slowing": slowing, "start": start, "entry": entry,
-                                                  "cell": cell - origin if beside else 0, "before": beside}, self._keeper.path)
+                                              "cell": free[inlet] if beside else 0, "before": beside}, self._keeper.path)
 
     async def capacity(self, road: Road, first: int, last: int, cars: int, limit: int) -> Reply:
         """Return the value of a shape of kind `capacity` on the zones `first` to `last`: works with a limit that leave some cars per hour

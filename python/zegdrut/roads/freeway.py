@@ -122,7 +122,18 @@ def convert_road_demands(road: Road, effort: Effort = Effort(), progress: Callab
 
 def list_free_cells(road: Road) -> list[int]:
     """Return the cells that the inlets would have without an approach."""
-    return [max(cell - road.approach, 0) for cell, _ in road.inlets]
+    return leave_out_approach([cell for cell, _ in road.inlets], road.approach)
+
+
+ACCELERATING = 8
+"""The cells in which cars that have entered accelerate. There they hinder a ramp more than cars that come from an approach."""
+
+
+def leave_out_approach(cells: Sequence[int], approach: int) -> list[int]:
+    """Return the cells that inlets would have without an approach of some cells. If a ramp is near km 0, as much of the approach is left as cars
+    need to accelerate."""
+    left_out = max(min([approach, *(cell - ACCELERATING for cell in cells if cell)]), 0)
+    return [max(cell - left_out, 0) for cell in cells]
 
 
 def measure_chances(road: Road, progress: Callable[[int], None] = lambda inlet: None) -> Chances:
