@@ -46,7 +46,8 @@ class Words(unittest.TestCase):
             self.assertEqual(([*written.shape], written.sentence), (shape, said))
         for words, why in ((("close", "-1.3", "0", "1"), "-1.3 to 0 km: give two places from -1.2 to 1.2 km, the smaller first"),
                            (("detector", "on", "1.3", "1"), "1.3 km is not on the road: give a place from -1.2 to 1.2 km"),
-                           (("close", "0", "0.1", "-5"), "BEGIN: '-5' is not a time")):
+                           (("close", "0", "0.1", "-5"), "BEGIN: minute -5 is before the run, which begins at minute -4"),
+                           (("close", "0", "0.1", "²"), "BEGIN: '²' is not a time")):
             with self.assertRaisesRegex(InvalidWords, re.escape(why)):
                 read_change(words, PLAN, UNITS, Clock.read("07:00"))
 

@@ -97,11 +97,12 @@ def read_times(given: Sequence[str], units: Units, clock: Clock) -> tuple[int, i
 def read_time(text: str, name: str, lead: int, clock: Clock) -> int:
     """Return the step of a clock time, or of minutes after minute 0, which is the step `lead`. Raise `InvalidTime` if the text is neither, or
     before the run."""
-    if text.removeprefix("-").replace(".", "", 1).isdigit():
-        step = lead + to_steps(float(text))
-        if step >= 0:
-            return step
-    return clock.shift(-lead).to_step(text, name)
+    if not text.removeprefix("-").replace(".", "", 1).isdecimal():
+        return clock.shift(-lead).to_step(text, name)
+    step = lead + to_steps(float(text))
+    if step < 0:
+        raise InvalidTime(f"{name}: minute {text} is before the run, which begins at minute {0 - lead / 60:g}")
+    return step
 
 
 def read_value(kind: str, text: str | None) -> tuple[int, str]:
