@@ -766,6 +766,21 @@ class Names(Case):
                 await here.keeper.wait_until_writable()
                 self.assertEqual(await self.counts(here, 1), [53])
 
+    async def test_a_forgotten_change_that_cannot_be_read_is_forgotten(self) -> None:
+        """The server starts all the same."""
+        async with Here() as here:
+            await here.join("Ada")
+            await here.ask(1, "gesture", key="p", shape=["limit", 2, 2, 50, None, 1])
+            await here.ask(1, "undo", key="u", stamp="p")
+            with mock.patch("server.journal.keeper.MOST_UNDOABLE", 0):
+                here.keeper._forget()
+        path, entries = here.folder / "journal.jsonl", here.entries()
+        made = next(entry["made"] for entry in entries if "made" in entry)
+        made["operation"]["shape"][5] = 2
+        path.write_bytes(b"".join(map(line_of, entries)))
+        async with Here(here.folder) as again:
+            self.assertEqual((again.lab.state.unreadable, again.lab.state.seats[1].own), ([], {}))
+
     async def test_roads_can_be_viewed_when_it_is_time_to_forget_but_the_disk_is_full(self) -> None:
         """Changes are forgotten when the program is replaced."""
         async with Here() as here:

@@ -351,11 +351,14 @@ class State:
         return [one.stamp for one in private if one in gone]
 
     def forget(self, seat: SeatReplica, stamps: Iterable[Stamp]) -> None:
-        """Drop private operations of a seat, which have no effect."""
-        gone = [self.by_stamp[stamp] for stamp in stamps]
+        """Drop private operations of a seat, which have no effect. In a journal that is read they may be among those that cannot be read."""
+        wanted = set(stamps)
+        gone = [one for one in seat.own if one.stamp in wanted]
         lines = set() if seat.marks is None else {line_of(seat.road, one) for one in gone}
         for operation in gone:
-            del seat.own[operation], seat.places[operation], self.makers[operation], self.by_stamp[operation.stamp]
+            del seat.own[operation], seat.places[operation], self.makers[operation]
+            self.by_stamp.pop(operation.stamp, None)
+        self.unreadable = [one for one in self.unreadable if one not in gone]
         seat.rebuild_without(lines)
 
     def forget_keys(self, seat: SeatReplica) -> None:
