@@ -231,6 +231,9 @@ class Kept(Case):
                 await self.here.ask(self.ada, verb, at="variant:night")
         with self.assertRaisesRegex(Refused, "NotYourReplica"):
             await self.here.ask(self.ada, "variant", at="shared", name="a")
+        with self.assertRaisesRegex(Refused, "NotYourReplica") as caught:  # "seat1" is the only name of that road
+            await self.here.ask(self.ada, "figures", of=["own", f"seat{self.ada}"], **{"from": 0, "to": 60})
+        self.assertIn('"variant:NAME"', caught.exception.why)
         self.assertEqual(self.here.entries(), entries)
         self.assertEqual((await self.here.ask(self.ada, "variant", name="night"))["variants"], ["night", *names])
 

@@ -101,10 +101,10 @@ def name_in(lab: Lab, index: int, at: Json, valid: frozenset[str]) -> str:
     """Return the name of a road, "own" for the seat's own. Raise `Refused` if it is not a valid one."""
     seat = lab.state.seats[index]
     meant = "own" if at == seat.at else at
-    if type(meant) is not str or (VARIANT if meant.startswith(VARIANT) else meant) not in valid:
-        said = [seat.at if one == "own" else one for one in sorted(valid)]
+    if type(meant) is not str or at == "own" or (VARIANT if meant.startswith(VARIANT) else meant) not in valid:
+        said = [seat.at if one == "own" else f"{VARIANT}NAME" if one == VARIANT else one for one in sorted(valid)]
         raise Refused("NotYourReplica", "a tab can change only its own road, and query only that one, the shared road, the two roads of its "
-                      f"preview, its variants and the file's road: here a road must be {' or '.join(f'{chr(34)}{one}{chr(34)}' for one in said)}")
+                      "preview, its variants and the file's road: here a road must be " + " or ".join(f'"{one}"' for one in said))
     if meant.startswith(VARIANT):
         require_variant(seat, meant.removeprefix(VARIANT))
     return meant
