@@ -286,6 +286,11 @@ class Shell(Case):
         self.assertEqual((await self.road("cron", "seats"))[1], "seat 1: cron, here")
         async with self.a6.seat("Ada") as ada:
             self.assertEqual(ada.welcome["now"], 700)
+        (self.a6.folder / "freeway.json").write_text('{"begin": "06:30"}', encoding="utf-8")
+        for time_of_day in ("06:40", "16:42", "06:29"):
+            self.assertEqual(await self.road("cron", "clock", time_of_day), (2, "", "cron: the clock goes forward only, and by at most 10 hours "
+                             f"at a time: give a time from 06:41:40 to 16:41:40, not {time_of_day}"))
+        self.assertEqual((await self.road("cron", "clock", "16:41:40"))[:2], (0, "the clock is at 16:41:40"))
 
     async def test_six_commands_at_once_get_six_stamps(self) -> None:
         said = await asyncio.gather(*(self.road("cron", "edit", "limit", "2", str(step), "1") for step in range(6)))
