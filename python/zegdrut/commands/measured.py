@@ -282,7 +282,7 @@ class Congestion:
 
 
 def describe_means(mean: str) -> str:
-    """Return by which speeds the counts and the simulation are congested."""
+    """Return the means that say whether the counts and the simulation are congested."""
     return ("measured and simulated by space-mean speeds" if mean == SPACE_MEAN else
             "measured by time-mean speeds, and simulated by space-mean speeds, which are lower in a jam")
 

@@ -369,8 +369,8 @@ def read_time(path: Path, number: int, text: str) -> datetime.datetime | datetim
 
 def correct_counts(counts: Counts, leave_out: Sequence[str] = (), factors: Mapping[str, float] = MappingProxyType({}),
                    shifts: Mapping[str, float] = MappingProxyType({})) -> Counts:
-    """Return counts without some stations, with the counts of some stations times a factor, and with the times of some stations moved by so
-    many minutes. Fault: a station is unknown, or a factor or a shift is out of range."""
+    """Return counts without some stations, with the counts of some stations times a factor, and with the times of some stations moved by some
+    minutes. Fault: a station is unknown, or a factor or a shift is out of range."""
     for name in (*leave_out, *factors, *shifts):
         if name not in counts.stations:
             raise Fault(f"{counts.path} has no station {name}: the stations are {', '.join(counts.stations)}")
