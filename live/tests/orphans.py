@@ -11,7 +11,7 @@ import unittest
 from pathlib import Path
 from typing import Any
 
-from running import PATIENCE, SMALL, Case, descendants, until
+from running import PATIENCE, SMALL, Case, descendants, slowness, until
 from server.shell.client import Seat
 
 HERE = Path(__file__).resolve().parent
@@ -37,6 +37,12 @@ def age_of(process: int) -> float:
     return 0.0
 
 
+def kill(process: int, by: int) -> None:
+    """Send a signal to a process, unless it has ended just now."""
+    with contextlib.suppress(ProcessLookupError):
+        os.kill(process, by)
+
+
 class Orphans(Case):
     async def asyncSetUp(self) -> None:
         self.mark = secrets.token_hex(8)
@@ -45,7 +51,7 @@ class Orphans(Case):
 
     def end_all(self) -> None:
         for process in marked(self.mark):
-            os.kill(process, signal.SIGKILL)
+            kill(process, signal.SIGKILL)
 
     async def ends(self, by: int) -> None:
         """Figures, a preview, a question over many days and a save are under way, all of them stopped, when it ends."""
@@ -59,11 +65,11 @@ class Orphans(Case):
                 (cleo, "transcript", cleo.at, {"from": 0, "to": 30_000})]
             asked = [asyncio.ensure_future(seat.reply(verb, at=at, **more)) for seat, verb, at, more in questions]
             await until(lambda: self.are(8), "all is under way")
-            await asyncio.sleep(0.5)
+            await asyncio.sleep(0.5 * slowness())
             for process in descendants(self.a6.process.pid):
                 # A younger process may not yet have asked the kernel to end it with the server.
-                if age_of(process) > 0.3:
-                    os.kill(process, signal.SIGSTOP)
+                if age_of(process) > 0.3 * slowness():
+                    kill(process, signal.SIGSTOP)
             self.a6.process.send_signal(by)
             await until(lambda: self.are(0), "all has ended")
             await asyncio.gather(*asked, return_exceptions=True)

@@ -77,11 +77,14 @@ def end(process: subprocess.Popen[Any]) -> None:
 
 def descendants(process: int | str = "self") -> Iterator[int]:
     """Yield all processes that were started here, and their descendants."""
-    for path in Path(f"/proc/{process}/task").glob("*/children"):
-        with contextlib.suppress(OSError):
-            for child in map(int, path.read_text().split()):
-                yield from descendants(child)
-                yield child
+    children: list[int] = []
+    with contextlib.suppress(OSError):  # it has ended just now
+        for path in Path(f"/proc/{process}/task").glob("*/children"):
+            with contextlib.suppress(OSError):  # so has this thread of it
+                children += map(int, path.read_text().split())
+    for child in children:
+        yield from descendants(child)
+        yield child
 
 
 def kill_all() -> None:
