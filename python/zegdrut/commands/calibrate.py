@@ -8,12 +8,13 @@ rounds of points are simulated in parallel on all processors, each point over so
 of COUNTS.csv, and the spread between the days is shown; with --check the result is compared with other days. On a terminal it shows the
 progress and the best point; to a log it writes a line every ten seconds.
 
-It prints the result, the terms of the smallest error, the ten best points, and the errors of the result and of the drivers of ROAD.json. It writes calibrated-NAME.json (ROAD.json with the fitted drivers, and the measured demand
-of the main road and of the ramps times the fitted factor), tried-NAME.csv (all points with their errors) and surface-NAME.svg (a picture
-of the errors). zegdrut/measurements/calibration.py defines the error. An error of about 2 is as good as chance allows. The command warns if the
-smallest error is above 5, and if a result is within 5 % of the bounds of its range. Then it compares the congestion of the result with the
-measured one, and says how far the delay moves with drivers that fit as well within chance. calibrated-NAME.json has these drivers, too, and
-`zegdrut report` shows how far its figures move with them.
+It prints the result, the terms of the smallest error, the ten best points, and the errors of the result and of the drivers of ROAD.json. It
+writes calibrated-NAME.json (ROAD.json with the fitted drivers, and the measured demand of the main road and of the ramps times the fitted
+factor), tried-NAME.csv (all points with their errors) and surface-NAME.svg (a picture of the errors). zegdrut/measurements/calibration.py
+defines the error. An error of about 2 is as good as chance allows. The command warns if the smallest error is above 5, and if a result is
+within 5 % of the bounds of its range. Then it compares the congestion of the result with the measured one, and says how far the delay moves
+with drivers that fit as well within chance. calibrated-NAME.json has these drivers, too, and `zegdrut report` shows how far its figures
+move with them.
 """
 from __future__ import annotations
 
@@ -374,9 +375,9 @@ def describe_alternatives(alternatives: Alternatives, found: Calibration, sure: 
     """Return a sentence on the delay, measured and simulated, and how far it moves over the points that fit as well."""
     later = sum(bool(one.round) for one in (*found.tried, *found.last))
     at_stations = "" if congestion.delay_at_stations is None else f" and {format_both(congestion.delay_at_stations)} simulated"
-    return (f"delay of congested traffic in vehicle hours per lane: by the cars that pass the stations {sure.delay.measured:.1f} measured{at_stations}, by all "
-            f"cars between them {format_both(sure.delay)} simulated. Calibration: {sure.describe()} ({alternatives.points} of {later} points, with errors up to "
-            f"{alternatives.chance:.1f} above the smallest). ± does not include this")
+    return (f"delay of congested traffic in vehicle hours per lane: by the cars that pass the stations {sure.delay.measured:.1f} measured{at_stations}, "
+            f"by all cars between them {format_both(sure.delay)} simulated. Calibration: {sure.describe()} ({alternatives.points} of {later} points, with "
+            f"errors up to {alternatives.chance:.1f} above the smallest). ± does not include this")
 
 
 def main(words: Sequence[str] | None = None, out: Path = Path("out")) -> int:

@@ -97,8 +97,8 @@ def add_count_options(parser: argparse.ArgumentParser) -> None:
     parser.add_argument("--no-ramp-check", action="store_true", help="compare also the stations after a fall of the flow, as at an off-ramp")
     parser.add_argument("--column", action="append", default=[], metavar="QUANTITY=COLUMN", help="title of the column of a quantity, such as speed=v_mean")
     parser.add_argument("--unit", action="append", default=[], metavar="speed=UNIT", help="unit of the speeds: km/h, mph or m/s")
-    parser.add_argument("--speeds", choices=(TIME_MEAN, SPACE_MEAN), default=TIME_MEAN, help="what the speeds are: arithmetic means of the cars that pass, "
-                        "or means of the cars on the road, such as harmonic means or flow / density (default: %(default)s)")
+    parser.add_argument("--speeds", choices=(TIME_MEAN, SPACE_MEAN), default=TIME_MEAN, help="what the speeds are: arithmetic means of the cars that "
+                        "pass, or means of the cars on the road, such as harmonic means or flow / density (default: %(default)s)")
 
 
 def read_pairs(given: list[str], word: str, example: str, known: Sequence[str]) -> dict[str, str]:
@@ -249,8 +249,8 @@ class Congestion:
             rows += [[f"RMSE of {mean} speed in {what}", "km/h", format_number(off.rmse), ""],
                      [f"simulated minus measured {mean} speed in {what}", "km/h", format_number(off.bias), ""]]
         bound = " (at least)" if self._lost_cars else ""
-        for name, unit, both, alike in zip(("delay of congested traffic", "mean travel time", "longest travel time"), ("vehicle hours per lane", "s", "s"),
-                                           self._lost or (), self._lost_at_stations or ()):
+        for name, unit, both, alike in zip(("delay of congested traffic", "mean travel time", "longest travel time"),
+                                           ("vehicle hours per lane", "s", "s"), self._lost or (), self._lost_at_stations or ()):
             if both is not None and alike is not None:
                 rows += [[f"{name}, measured at stations", unit, format_number(both.measured), ""],
                          [f"{name}, simulated at stations{bound}", unit, format_number(alike.simulated), format_number(alike.half)],
@@ -346,7 +346,8 @@ def draw_space_time(model: Model) -> str:
     drawn = [draw_field(simulated, f"Simulated space-mean speed, seed {model.seed}", clock, 0, model.window_steps, km, ramps=ramps, detectors=stations)]
     if any(speed is not None for one in model.measured.main for speed in one.speeds):
         measured = make_measured_field(model, len(simulated[0]))
-        drawn.insert(0, draw_field(measured, f"Measured {model.measured.mean} speed, nearest station", clock, 0, model.window_steps, km, ramps=ramps, detectors=stations))
+        title = f"Measured {model.measured.mean} speed, nearest station"
+        drawn.insert(0, draw_field(measured, title, clock, 0, model.window_steps, km, ramps=ramps, detectors=stations))
     return stack_drawings([*drawn, draw_scale(has_no_data=len(drawn) > 1, has_ramps=bool(ramps), has_detectors=True)])
 
 

@@ -438,7 +438,8 @@ def list_opposite(found: Calibration, bounds: Bounds) -> list[Point]:
 def find_chance(found: Calibration) -> float | None:
     """Return the difference of errors that chance makes: the median of the standard deviations between the days of the best points. None: they
     have a single day."""
-    alone = [[math.fsum(errors) / len(errors) for errors in zip(*(day.by_seed for day in one.by_day))] for one in found.best_ten() if math.isfinite(one.error)]
+    best = [one for one in found.best_ten() if math.isfinite(one.error)]
+    alone = [[math.fsum(errors) / len(errors) for errors in zip(*(day.by_seed for day in one.by_day))] for one in best]
     return statistics.median(statistics.stdev(errors) for errors in alone) if len(alone[0]) > 1 else None
 
 

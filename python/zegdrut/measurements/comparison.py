@@ -5,8 +5,9 @@
     speeds = compare_speeds(model.measured, days)
 
 GEH = sqrt(2 (M - C)^2 / (M + C)) for M simulated and C measured cars of an *hour*. Five-minute rows are summed first. If at least five
-sixths of the rows of an hour are there, both sums are over these rows, and are scaled to the hour; otherwise it has no GEH. GEH grows with the number of lanes, so each table has it per lane, like all other figures, and for all lanes.
-Both speeds are means of the same kind: time-mean speeds at a detector, or, if the counts have them, space-mean speeds near the station.
+sixths of the rows of an hour are there, both sums are over these rows, and are scaled to the hour; otherwise it has no GEH. GEH grows with
+the number of lanes, so each table has it per lane, like all other figures, and for all lanes. Both speeds are means of the same kind:
+time-mean speeds at a detector, or, if the counts have them, space-mean speeds near the station.
 """
 from __future__ import annotations
 

@@ -14,7 +14,7 @@ half of the days with a car. Measured speeds are usually time means, which are n
 counts are congested, the space mean is, too, and a measured jam can be judged by the simulated space mean. (The time mean would not do:
 in the model a car passes a detector at 27 km/h or more, and most have left the jam, so that a detector in a jam often shows twice a real
 speed.) Where the counts are not congested, the space mean may be. So for a simulated jam that the counts do not have, means of the same
-kind are compared: the counts deny it only if they fall less than half as far below the free speed as the simulated speeds. Errors of
+kind are compared: the counts rule it out only if they fall less than half as far below the free speed as the simulated speeds. Errors of
 speeds also compare means of the same kind.
 
 Delay and travel time cover the stretch from the first to the last station with speeds. Each station stands for its segment, which ends
@@ -47,7 +47,7 @@ SHORTEST_JAM, LONG_INTERVAL = 900, 300
 MOST, LEAST = 2 / 3, 1 / 3
 """A jam is reproduced if at least MOST of its station intervals are congested in the simulation, and missed if fewer than LEAST are."""
 AS_DEEP = 0.5
-"""The counts deny a simulated jam if they fall by less than this share of the simulated fall below the free speed."""
+"""The counts rule out a simulated jam if they fall by less than this share of the simulated fall below the free speed."""
 FAR, MOST_SHARE = 0.25, 0.95
 """A jam is looked for up to so far above the share of `--congested`, and the greatest share."""
 SLOWEST = 1.0
@@ -126,7 +126,8 @@ def judge(measured: Measured, days: Sequence[JudgedDay], share: float = CONGESTE
     """Find the congested intervals of the compared stations, and compare the speeds in them and in the other intervals."""
     drawn = States()
     off: dict[bool, list[float]] = {True: [], False: []}
-    speeds = [[compute_speed([day.passed for day in days], index, place) for place in range(measured.intervals)] for index in range(len(measured.main) - 1)]
+    passed = [day.passed for day in days]
+    speeds = [[compute_speed(passed, index, place) for place in range(measured.intervals)] for index in range(len(measured.main) - 1)]
     for index, series in enumerate(measured.main[1:]):
         bound = share * (find_free_speed(series) or 0.0)
         drawn.append([is_simulated_congested(days, index, place, bound) if bound else None for place in range(measured.intervals)])
@@ -218,14 +219,14 @@ def describe_jams(found: Judgement, measured: Measured) -> list[str]:
 
 
 def describe_speeds_of_jam(jam: Jam, found: Judgement, measured: Measured) -> str:
-    """Return whether the counts deny a simulated jam in which they are not congested. A station that no simulated car passes has the speed 0."""
+    """Return whether the counts rule out a simulated jam in which they are not congested. A station that no simulated car passes has the speed 0."""
     pairs = [(find_free_speed(series) or 0.0, speed, found.speeds[index][place] or 0.0) for index, place in jam.places
              if (speed := (series := measured.main[index + 1]).speeds[place]) is not None]
     free, known, drawn = (math.fsum(values) / len(pairs) for values in zip(*pairs))
     speeds = f"{measured.mean} speeds there are {known:.0f} km/h measured and {drawn:.0f} km/h simulated, with a free speed of {free:.0f} km/h"
     if free - known < AS_DEEP * (free - drawn):
         return f"that was not measured: {speeds}"
-    return f"that the counts do not deny: {speeds}" + ("" if measured.mean == SPACE_MEAN else ". Time means of cars that pass a station hardly show a jam")
+    return f"that the counts do not rule out: {speeds}" + ("" if measured.mean == SPACE_MEAN else ". In the model such speeds hardly show a jam")
 
 
 def suggest_share(found: Judgement, measured: Measured) -> list[str]:
