@@ -26,8 +26,8 @@ from typing import Optional, Sequence, cast
 from ..figures.intervals import FEW_DAYS, warn_few_days
 from ..measurements.comparison import (Day, Hour, Model, compare_hours, compare_speeds, list_left_out, make_model, make_interval_records, compute_total_rmse, compute_share_below,
                           simulate_day, simulate_days, with_measured_demand, with_stations)
-from ..measurements.congestion import (CONGESTED, LONG_INTERVAL, Both, JudgedDay, compare_time_lost, describe_congested_demand, describe_jams,
-                                       describe_lost, judge, list_segments, simulate_segments)
+from ..measurements.congestion import (CONGESTED, LONG_INTERVAL, Both, JudgedDay, compare_leaving, compare_time_lost, describe_congested_demand,
+                                       describe_jams, describe_leaving, describe_lost, judge, list_segments, simulate_segments)
 from ..measurements.measured import SPACE_MEAN, TIME_MEAN, Measured, put_on_road
 from ..measurements.stations import HEADERS, Counts, correct_counts, read_counts, read_stations
 from ..program.bars import Bar
@@ -238,6 +238,7 @@ class Congestion:
         self._segments = list_segments(model)
         self._lost, self._lost_at_stations = (compare_time_lost(self._segments, days, share, at_stations) for at_stations in (False, True))
         self._lost_cars = describe_lost(model, days)
+        self._leaving = compare_leaving(model.measured, days, share)
 
     def format_table(self) -> list[str]:
         """Return the table of station intervals, speeds, delay and travel times."""
@@ -278,7 +279,7 @@ class Congestion:
         if interval < LONG_INTERVAL:
             said.append(f"in counts of {count_things(interval // 60, 'minute')} one free interval ends a jam: for a verdict add them up to "
                         f"{LONG_INTERVAL // 60} minutes")
-        return [*said, *self._lost_cars, *describe_jams(self._found, self._measured)]
+        return [*said, *self._lost_cars, *describe_jams(self._found, self._measured), *describe_leaving(self._leaving)]
 
 
 def describe_means(mean: str) -> str:

@@ -17,6 +17,10 @@ speed.) Where the counts are not congested, the space mean may be. So for a simu
 kind are compared: the counts rule it out only if they fall less than half as far below the free speed as the simulated speeds. Errors of
 speeds also compare means of the same kind.
 
+The flow that leaves a jam decides how long a queue lasts. The head of a jam is between two neighbouring stations if the first one is in a jam and
+the second one is not congested. The flow that leaves it is the flow at the second one in these intervals, if they are 15 minutes or more in
+all. It includes the cars of a ramp between the two. In the simulation the intervals are those of each day, since its jams have other times.
+
 Delay and travel time cover the stretch from the first to the last station with speeds. Each station stands for its segment, which ends
 halfway to the next station. The delay of an interval is cars x length x (1 / speed - 1 / free speed), by the cars and the speed at the
 station, and a travel time is the sum over the segments of length / speed. The simulation has both at its stations, with speeds of the
@@ -50,6 +54,9 @@ AS_DEEP = 0.5
 """The counts rule out a simulated jam if they fall by less than this share of the simulated fall below the free speed."""
 FAR, MOST_SHARE = 0.25, 0.95
 """A jam is looked for up to so far above the share of `--congested`, and the greatest share."""
+LEAVING_ERROR = 0.05
+"""Flows that leave a jam agree if they differ by less. Counts are right to about this. In the shortest jam some 375 cars leave on a lane. If their
+headways vary by half of the mean, this number varies by 0.5 / sqrt(375) = 2.6 % by chance, and 5 % are about twice that."""
 SLOWEST = 1.0
 """Lower speeds in km/h count as this one."""
 LEAST_LOST = 0.02
@@ -124,13 +131,12 @@ def find_free_speed(series: Series) -> float | None:
 
 def judge(measured: Measured, days: Sequence[JudgedDay], share: float = CONGESTED) -> Judgement:
     """Find the congested intervals of the compared stations, and compare the speeds in them and in the other intervals."""
-    drawn = States()
+    drawn = find_simulated_states(measured, days, share)
     off: dict[bool, list[float]] = {True: [], False: []}
     passed = [day.passed for day in days]
     speeds = [[compute_speed(passed, index, place) for place in range(measured.intervals)] for index in range(len(measured.main) - 1)]
     for index, series in enumerate(measured.main[1:]):
         bound = share * (find_free_speed(series) or 0.0)
-        drawn.append([is_simulated_congested(days, index, place, bound) if bound else None for place in range(measured.intervals)])
         for speed, mean in zip(series.speeds, speeds[index]):
             if speed is not None and mean is not None:
                 off[speed < bound].append(mean - speed)
@@ -140,6 +146,13 @@ def judge(measured: Measured, days: Sequence[JudgedDay], share: float = CONGESTE
 def find_states(measured: Measured, share: float) -> States:
     """Return whether the compared stations are congested in the counts."""
     return [[None if speed is None else speed < share * (find_free_speed(series) or 0.0) for speed in series.speeds] for series in measured.main[1:]]
+
+
+def find_simulated_states(measured: Measured, days: Sequence[JudgedDay], share: float) -> States:
+    """Return whether the compared stations are congested in the simulation."""
+    bounds = [share * (find_free_speed(series) or 0.0) for series in measured.main[1:]]
+    return [[is_simulated_congested(days, index, place, bound) if bound else None for place in range(measured.intervals)]
+            for index, bound in enumerate(bounds)]
 
 
 def is_simulated_congested(days: Sequence[JudgedDay], index: int, place: int, bound: float) -> bool | None:
@@ -277,6 +290,57 @@ def name_jam(head: str, jam: Jam, clock: Clock, names: Sequence[str], interval: 
     *others, last = names[jam.first:jam.last + 1]
     stations = f"stations {', '.join(others)} and {last}" if others else f"station {last}"
     return f"{head} {clock.to_text(jam.begin * interval)} to {clock.to_text(jam.end * interval)} at {stations}"
+
+
+# The flow that leaves a jam
+
+class Leaving(NamedTuple):
+    """The flow that leaves jams whose head is between a station and the next one, in cars per hour and lane: measured, and the mean of the
+    simulated days with such a jam (None without one), with half its 95 % interval."""
+
+    station: str
+    following: str
+    measured: float
+    simulated: float | None
+    half: float | None
+
+
+def compare_leaving(measured: Measured, days: Sequence[JudgedDay], share: float = CONGESTED) -> list[Leaving]:
+    """Compare the flow that leaves a jam, for each two stations between which a measured jam has its head."""
+    found, interval = [], measured.interval
+    known, drawn = find_states(measured, share), [find_simulated_states(measured, [day], share) for day in days]
+    for index, (one, following) in enumerate(zip(measured.main[1:], measured.main[2:])):
+        flow = compute_leaving(known, index, following.cars, interval)
+        flows = [compute_leaving(states, index, [passed.cars for passed in day.passed[index + 1]], interval) for states, day in zip(drawn, days)]
+        jammed = [each for each in flows if each is not None]
+        if flow is not None:
+            found.append(Leaving(one.station.name, following.station.name, flow, *(estimate_days(jammed) if jammed else (None, None))))
+    return found
+
+
+def compute_leaving(states: States, index: int, cars: Sequence[float | None], interval: int) -> float | None:
+    """Return the flow of the cars that pass the station after a station in cars per hour, while the head of a jam is between the two. Return None
+    if this is shorter than a jam."""
+    least = math.ceil(SHORTEST_JAM / interval)
+    left = [count for begin, end in find_runs(states[index], least) for place in range(begin, end)
+            if states[index + 1][place] is False and (count := cars[place]) is not None]
+    return math.fsum(left) / len(left) * HOUR / interval if len(left) >= least else None
+
+
+def describe_leaving(found: Sequence[Leaving]) -> list[str]:
+    """Return a sentence for each flow that leaves a jam, with what follows for the queues of the simulated road."""
+    return [f"flow that leaves the jam at station {one.station}, counted at station {one.following}: {one.measured:,.0f} cars/h per lane measured, "
+            f"{compare_queues(one)}" for one in found]
+
+
+def compare_queues(one: Leaving) -> str:
+    """Return the simulated flow that leaves a jam, and what follows for queues."""
+    if one.simulated is None:
+        return "and no simulated day has a jam there"
+    ratio = one.simulated / one.measured
+    verdict = (f"they agree within {100 * LEAVING_ERROR:.0f} %" if abs(ratio - 1) <= LEAVING_ERROR else
+               f"queues of this road last too {'long' if ratio < 1 else 'short'}")
+    return f"{one.simulated:,.0f}{'' if one.half is None else f' ± {one.half:,.0f}'} simulated: {verdict}"
 
 
 # Lost cars
