@@ -365,7 +365,7 @@ def measure_alternatives(given: argparse.Namespace, alternatives: Alternatives, 
         rounded = point._replace(slowing=round(point.slowing, 4), start=round(point.start, 4))
         model = make_model(given.road.stem, apply_point(road, rounded), measured, rounded.factor)
         lost = compare_time_lost(segments := list_segments(model), simulate_segments(model, segments, DAYS), given.congested)
-        found = lost.delay if lost else Both(0.0, 0.0, None)
+        found = lost or Both(0.0, 0.0, None)
         return Alternative(rounded.slowing, rounded.start, round(rounded.factor / best.factor, 5), round(found.simulated, 2)), found
     less, more = sorted(map(measure, (alternatives.less, alternatives.more)), key=lambda drivers: drivers[0].delay)
     return Sure(delay, less, more)

@@ -26,8 +26,9 @@ from typing import Optional, Sequence, cast
 from ..figures.intervals import FEW_DAYS, warn_few_days
 from ..measurements.comparison import (Day, Hour, Model, compare_hours, compare_speeds, list_left_out, make_model, make_interval_records, compute_total_rmse, compute_share_below,
                           simulate_day, simulate_days, with_measured_demand, with_stations)
-from ..measurements.congestion import (CONGESTED, LONG_INTERVAL, Both, JudgedDay, compare_leaving, compare_time_lost, describe_congested_demand,
-                                       describe_jams, describe_leaving, describe_lost, judge, list_segments, simulate_segments)
+from ..measurements.congestion import (CONGESTED, DEPARTURE, LONG_INTERVAL, Both, JudgedDay, compare_leaving, compare_time_lost, compare_travel_times,
+                                       describe_congested_demand, describe_jams, describe_leaving, describe_lost, judge, list_segments,
+                                       simulate_segments)
 from ..measurements.measured import SPACE_MEAN, TIME_MEAN, Measured, put_on_road
 from ..measurements.stations import HEADERS, Counts, correct_counts, read_counts, read_stations
 from ..program.bars import Bar
@@ -231,12 +232,18 @@ def format_speeds(model: Model, days: Sequence[Day]) -> list[str]:
 class Congestion:
     """The congestion of a road, compared with the measured one, as a table and as sentences."""
 
+    delay: Both | None
+    """The delay of congested traffic by all cars, in vehicle hours per lane, or None without speeds."""
+    delay_at_stations: Both | None
+    """The delay by the cars that pass the stations."""
+
     def __init__(self, model: Model, days: Sequence[JudgedDay], share: float) -> None:
         """Judge the days of a model. Traffic is congested below a share of the free speed."""
         self._measured, self._share = model.measured, share
         self._found = judge(model.measured, days, share)
         self._segments = list_segments(model)
-        self._lost, self._lost_at_stations = (compare_time_lost(self._segments, days, share, at_stations) for at_stations in (False, True))
+        self.delay, self.delay_at_stations = (compare_time_lost(self._segments, days, share, at_stations) for at_stations in (False, True))
+        self._times = compare_travel_times(model, self._segments, days)
         self._lost_cars = describe_lost(model, days)
         self._leaving = compare_leaving(model.measured, days, share)
 
@@ -250,36 +257,37 @@ class Congestion:
             rows += [[f"RMSE of {mean} speed in {what}", "km/h", format_number(off.rmse), ""],
                      [f"simulated minus measured {mean} speed in {what}", "km/h", format_number(off.bias), ""]]
         bound = " (at least)" if self._lost_cars else ""
-        for name, unit, both, alike in zip(("delay of congested traffic", "mean travel time", "longest travel time"),
-                                           ("vehicle hours per lane", "s", "s"), self._lost or (), self._lost_at_stations or ()):
+        found, times = [("delay of congested traffic", "vehicle hours per lane", self.delay, self.delay_at_stations)], self._times
+        if times is not None:
+            found += [("mean travel time by trajectories", "s", times.mean, times.mean_at_stations),
+                      ("longest travel time by trajectories", "s", times.longest, times.longest_at_stations)]
+        for name, unit, both, alike in found:
             if both is not None and alike is not None:
                 rows += [[f"{name}, measured at stations", unit, format_number(both.measured), ""],
                          [f"{name}, simulated at stations{bound}", unit, format_number(alike.simulated), format_number(alike.half)],
                          [f"{name}, simulated by all cars{bound}", unit, format_number(both.simulated), format_number(both.half)]]
         return format_csv(rows)
 
-    @property
-    def delay(self) -> Both | None:
-        """Return the delay of congested traffic in vehicle hours per lane, or None without speeds."""
-        return None if self._lost is None else self._lost.delay
-
-    @property
-    def delay_at_stations(self) -> Both | None:
-        """Return the delay by the cars that pass the stations, or None without speeds."""
-        return None if self._lost_at_stations is None else self._lost_at_stations.delay
-
     def describe(self) -> list[str]:
-        """Return what congestion means here, the stretch of the delay and the travel times, and a verdict on each jam."""
+        """Return what congestion means here, what the delay and the travel times are, and a verdict on each jam."""
         said = [f"congested: below {self._share:g} of the free speed of the station, {describe_means(self._measured.mean)}"]
-        if self._lost is not None:
+        if self._segments:
             first, last = (self._segments[place].series.station for place in (0, -1))
-            said.append(f"delay and travel times: from station {first.name} to {last.name}, km {first.km:g} to {last.km:g}; travel times are means over "
-                        "the intervals. Station intervals and jams: at the stations after the first")
+            said += [f"delay and travel times: from station {first.name} to {last.name}, km {first.km:g} to {last.km:g}. Station intervals and jams: at the "
+                     "stations after the first", self._describe_times()]
         interval = self._measured.interval
         if interval < LONG_INTERVAL:
             said.append(f"in counts of {count_things(interval // 60, 'minute')} one free interval ends a jam: for a verdict add them up to "
                         f"{LONG_INTERVAL // 60} minutes")
         return [*said, *self._lost_cars, *describe_jams(self._found, self._measured), *describe_leaving(self._leaving)]
+
+    def _describe_times(self) -> str:
+        """Return what the travel times are, or why there are none."""
+        if self._times is None:
+            return "no travel times: no car that departs in the window arrives in it with a measured speed all the way"
+        return (f"travel times by trajectories: those of {count_things(self._times.number, 'car')} that depart {DEPARTURE} s apart and arrive in the window, the "
+                f"last one from {self._measured.clock.to_text(self._times.last)}. In each interval a car moves at the speed of its place: that at the nearest "
+                "station, or the mean of all cars there")
 
 
 def describe_means(mean: str) -> str:

@@ -3,7 +3,8 @@
     segments = list_segments(model)
     days = simulate_segments(model, segments, days=5)
     found = judge(model.measured, days)
-    print(found.count(), describe_jams(found, model.measured), compare_time_lost(segments, days))
+    print(found.count(), describe_jams(found, model.measured), compare_time_lost(segments, days),
+          compare_travel_times(model, segments, days))
 
 The free speed of a station is the speed that 85 % of its measured intervals do not exceed. A station interval is congested if its speed
 is below a share of that speed, by default 0.6: with a free speed of 97 km/h (60 mph) this is 58 km/h, close to the 35 mph below which
@@ -23,14 +24,17 @@ all. It includes the cars of a ramp between the two. In the simulation the inter
 
 Delay and travel time cover the stretch from the first to the last station with speeds. Each station stands for its segment, which ends
 halfway to the next station. The delay of an interval is cars x length x (1 / speed - 1 / free speed), by the cars and the speed at the
-station, and a travel time is the sum over the segments of length / speed. The simulation has both at its stations, with speeds of the
-measured kind, and also by all cars: the delay of the cars on the segment in each step, and the segment's space-mean speed. Delays are summed
-over congested intervals only, and only where both a count and a speed were measured.
+station. A travel time is that of a trajectory: a car departs each minute, and in each interval moves at the speed of its segment, which is
+that at the station. The simulation has both at its stations, with speeds of the measured kind, and also by all cars: the delay of the cars
+on the segment in each step, and the segment's space-mean speed, which also stands for the station in an interval in which no car passes it.
+Delays are summed over congested intervals only, and only where both a count and a speed were measured. Travel times are those of the cars
+that arrive in the window in the counts and on each simulated day.
 """
 from __future__ import annotations
 
 import math
 from dataclasses import dataclass
+from statistics import fmean
 from typing import Callable, NamedTuple, Sequence
 
 from ..figures.intervals import average_known
@@ -59,6 +63,8 @@ LEAVING_ERROR = 0.05
 headways vary by half of the mean, this number varies by 0.5 / sqrt(375) = 2.6 % by chance, and 5 % are about twice that."""
 SLOWEST = 1.0
 """Lower speeds in km/h count as this one."""
+DEPARTURE = 60
+"""The seconds between two departures of the trajectories."""
 LEAST_LOST = 0.02
 """The share of its demand that an inlet must lose: chances are accurate to 1 %."""
 States = list[list["bool | None"]]
@@ -387,14 +393,16 @@ class Both(NamedTuple):
     half: float | None
 
 
-class Lost(NamedTuple):
-    """The delay in congested intervals in vehicle hours per lane, and the mean and the longest travel time of the intervals in seconds.
+class TravelTimes(NamedTuple):
+    """The mean and the longest travel time of some trajectories in seconds, by the speeds of all cars and by those at the stations, their number,
+    and the step of the last departure."""
 
-    The travel times are None if no interval has the speeds of all stations."""
-
-    delay: Both
-    mean_time: Both | None
-    longest_time: Both | None
+    mean: Both
+    longest: Both
+    mean_at_stations: Both
+    longest_at_stations: Both
+    number: int
+    last: int
 
 
 def list_segments(model: Model) -> list[Segment]:
@@ -421,31 +429,59 @@ def simulate_segment_day(model: Model, segments: Sequence[Segment], seed: int) -
                      [[run.first, *run.day][one.number] for one in segments])
 
 
-def compare_time_lost(segments: Sequence[Segment], days: Sequence[JudgedDay], share: float = CONGESTED, at_stations: bool = False) -> Lost | None:
-    """Compare delay and travel times of the stretch, or return None without segments. The simulated ones are those of all cars on the road, or,
-    with `at_stations`, those that its stations show, by the formulas of the measured ones."""
+def compare_time_lost(segments: Sequence[Segment], days: Sequence[JudgedDay], share: float = CONGESTED, at_stations: bool = False) -> Both | None:
+    """Compare the delay in congested intervals in vehicle hours per lane, or return None without segments. The simulated one is that of all cars
+    on the road, or, with `at_stations`, the one that its stations show, by the formula of the measured one."""
     if not segments:
         return None
-    places = range(len(segments[0].series.cars))
 
     def delay_of(index: int, day: JudgedDay) -> float:
         one = segments[index]
         if not at_stations:
             return delay_of_day(one, day.on[index], share)
         return delay_at_station(one, [passed if is_counted(one, place) else Passed(0, None) for place, passed in enumerate(day.at[index])], share)
-
-    def find_speed(index: int, day: JudgedDay, place: int) -> float | None:
-        return day.at[index][place].speed if at_stations else compute_space_mean(day.on[index][place])
     delays = [math.fsum(delay_of(index, day) for index in range(len(segments))) for day in days]
-    delay = Both(math.fsum(delay_at_station(one, list(zip(one.series.cars, one.series.speeds)), share) for one in segments), *estimate_days(delays))
-    whole = [place for place in places if all(one.series.speeds[place] is not None for one in segments)]
-    if not whole:
-        return Lost(delay, None, None)
-    known = [math.fsum(one.km * HOUR / max(one.series.speeds[place] or 0.0, SLOWEST) for one in segments) for place in whole]
-    drawn = [[math.fsum(one.km * HOUR / max(find_speed(index, day, place) or one.free, SLOWEST) for index, one in enumerate(segments))
-              for place in whole] for day in days]
-    return Lost(delay, Both(math.fsum(known) / len(known), *estimate_days([math.fsum(times) / len(times) for times in drawn])),
-                Both(max(known), *estimate_days([max(times) for times in drawn])))
+    return Both(math.fsum(delay_at_station(one, list(zip(one.series.cars, one.series.speeds)), share) for one in segments), *estimate_days(delays))
+
+
+def compare_travel_times(model: Model, segments: Sequence[Segment], days: Sequence[JudgedDay]) -> TravelTimes | None:
+    """Compare the travel times of the cars that depart each minute and arrive in the window, in the counts and on each simulated day. Return
+    None if there is no such car."""
+    on_road = [[[one.free if speed is None else speed for speed in map(compute_space_mean, sums)] for one, sums in zip(segments, day.on)]
+               for day in days]
+    at_stations = [[[speed if one.speed is None else one.speed for one, speed in zip(*both)] for both in zip(day.at, of_day)]
+                   for day, of_day in zip(days, on_road)]
+    fields: list[Sequence[Sequence[float | None]]] = [[one.series.speeds for one in segments], *on_road, *at_stations]
+    lengths, found = [one.km for one in segments], dict[int, list[float]]()
+    for departure in range(0, model.window_steps if segments else 0, DEPARTURE):
+        times = [follow_car(lengths, speeds, model.measured.interval, departure) for speeds in fields]
+        arrived = [time for time in times if time is not None]
+        if len(arrived) == len(times):
+            found[departure] = arrived
+    if not found:
+        return None
+    of_counts, *drawn = zip(*found.values())
+
+    def compare(choose: Callable[[Sequence[float]], float], of_days: Sequence[Sequence[float]]) -> Both:
+        return Both(choose(of_counts), *estimate_days([choose(times) for times in of_days]))
+    by_cars, by_stations = drawn[:len(days)], drawn[len(days):]
+    return TravelTimes(compare(fmean, by_cars), compare(max, by_cars), compare(fmean, by_stations), compare(max, by_stations), len(found), max(found))
+
+
+def follow_car(lengths: Sequence[float], speeds: Sequence[Sequence[float | None]], interval: int, departure: int) -> float | None:
+    """Return the seconds in which a car passes segments of some km. In each interval it moves at the speed of its segment in km/h. Return
+    None if a speed on its way is unknown, or if it has not arrived after the last interval."""
+    time = float(departure)
+    for left, line in zip(lengths, speeds):
+        while left > 0:
+            place = int(time // interval)
+            speed = line[place] if place < len(line) else None
+            if speed is None:
+                return None
+            end = (place + 1) * interval
+            reached = speed * (end - time) / HOUR
+            time, left = (time + left / speed * HOUR, 0.0) if reached >= left else (end, left - reached)
+    return time - departure
 
 
 def is_counted(segment: Segment, place: int) -> bool:
