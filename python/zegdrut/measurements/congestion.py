@@ -361,10 +361,12 @@ def find_lost(model: Model, days: Sequence[JudgedDay]) -> list[Supply]:
 
 
 def describe_lost(model: Model, days: Sequence[JudgedDay]) -> list[str]:
-    """Return a sentence for each inlet at which cars are lost."""
+    """Return a sentence for each inlet at which cars are lost. The first inlet is that of the main road, the others are ramps."""
     return [f"{one.lost / len(days):,.0f} of {one.demand / len(days):,.0f} cars cannot enter at {model.road.units.place(cell)} and are lost: the simulated "
-            "delay and travel times leave them out. If a jam reaches km 0, give the road an approach"
-            for (cell, _), one in zip(model.road.inlets, find_lost(model, days)) if one.demand]
+            "delay and travel times leave them out. "
+            + ("If no jam was measured there, calibrate the drivers; otherwise check the demand of the ramp" if inlet else
+               "If a jam reaches km 0, give the road an approach")
+            for inlet, ((cell, _), one) in enumerate(zip(model.road.inlets, find_lost(model, days))) if one.demand]
 
 
 # Delay and travel time
