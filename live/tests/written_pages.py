@@ -2,6 +2,7 @@
 from __future__ import annotations
 
 import html
+import json
 import re
 from typing import Any
 from unittest import mock
@@ -11,6 +12,7 @@ from figures_told import mine, value
 from running import SMALL, Case
 from server.background.settings import Settings
 from server.figures import report
+from server.roads.new_road import FREEWAY_FILE
 from server.tabs.refusals import Refused
 
 SPAN: dict[str, Any] = {"from": 60, "to": 600}
@@ -94,6 +96,23 @@ class Reports(Case):
             self.assertIn(wanted, page)
         self.assertNotIn("<b>", page)
         self.assertIsNone(re.search(r'(src|href)="(?!data:)|<script|<button', page))
+
+    async def test_the_report_on_a_calibrated_road_says_how_sure_its_drivers_are(self) -> None:
+        """Beside the figures of one day, which have no ±, the sentence does not name it. Without a freeway file there is no such sentence."""
+        said = ("Calibration: 12.0 to 41.0 vehicle hours of delay per lane on the calibrated day by drivers that fit its counts equally well within chance, "
+                "and 30.0 by those of the file")
+        drivers = {"slowing": 0.1, "start": 0.2, "factor": 0.5}
+        calibrated = {"calibration": {"delay": 30.0, "less": {**drivers, "delay": 12.04}, "more": {**drivers, "delay": 41.0}}}
+        for words, end in (("steady", "."), (7, ": ± does not include this.")):
+            async with Here(plan={**SMALL, "words": words}) as here:
+                seat, = await here.join("Ada")
+                await here.lab.road_clock.set_clock(to=600)
+                for file, wanted in ((None, []), ({}, []), (calibrated, [end])):
+                    if file is not None:
+                        (here.keeper.folder / FREEWAY_FILE).write_text(json.dumps(file), encoding="utf-8")
+                    with mock.patch("server.figures.report.DAYS", 2):
+                        page = (await soon(here.ask(seat, "report", **ASKED, **SPAN)))["html"]
+                    self.assertEqual(re.findall(f"{re.escape(said)}(.*?)</p>", page), wanted)
 
     async def test_an_invalid_report_is_refused(self) -> None:
         async with Here() as here:

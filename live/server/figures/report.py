@@ -15,9 +15,11 @@ from zegdrut.reports.report import Side, make_tables, run_sides
 from zegdrut.reports.report_page import Contents, describe_approach, draw_demands, format_page
 from zegdrut.roads.clock import Clock
 from zegdrut.roads.demand import Rates
+from zegdrut.roads.freeway_files import describe_calibration, read_calibration
 from zegdrut.roads.units import ALWAYS, KMH, Units, count_things
 from zegdrut.sweeps.pool import count_processors
 
+from ..model.operations import Json
 from ..model.projection import Edits
 from . import child
 from .figures import ComparedRoads, edits_of, sides_of, units_of
@@ -29,9 +31,9 @@ MOST_SECONDS = child.PATIENCE
 NICE = 8
 MOST_DATES = 12  # changes of a demand that a sentence lists; if there are more, the chart shows them
 ReportQuestion = TypedDict("ReportQuestion", {
-    "compared": ComparedRoads, "title": str, "works": Sequence[str], "clock": Sequence["str | None"], "days": int, "approach": bool})
-"""Two roads or more, sentences about the changes, the clock time, date and time zone of step 0, the number of days, and whether the diagrams
-show the approach."""
+    "compared": ComparedRoads, "title": str, "works": Sequence[str], "clock": Sequence["str | None"], "days": int, "approach": bool, "calibration": Json})
+"""Two roads or more, sentences about the changes, the clock time, date and time zone of step 0, the number of days, whether the diagrams
+show the approach, and what `calibrate` wrote into the file of the road."""
 ReportAnswer = TypedDict("ReportAnswer", {"html": str, "days": int, "why": str}, total=False)
 """The page, and its number of days; or why the report would take too long."""
 
@@ -127,7 +129,8 @@ def make_page(asked: ReportQuestion) -> Iterator[ReportAnswer]:
     yield {"days": len(days), "html": format_page(Contents(
         title=asked["title"], facts=facts_of(compared, sides, clock), works=asked["works"], notes=[], clock=clock, window=window,
         length=plan["length"], detectors=plan["detectors"], sides=sides, days=days, rows=tables[0], others=tables[1:], seed=seed,
-        closed=closed, demand=demand_chart(plan, sides, clock, window), has_approach=asked["approach"]))}
+        closed=closed, demand=demand_chart(plan, sides, clock, window), has_approach=asked["approach"],
+        sure=describe_calibration(read_calibration(asked["calibration"]), len(days))))}
 
 
 if __name__ == "__main__":

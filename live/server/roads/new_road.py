@@ -66,6 +66,15 @@ def find_profile_end(folder: Path, lead: int) -> int | None:
     return end if any(isinstance(demand, (list, dict)) for demand in demands) else None
 
 
+def calibration_of(folder: Path) -> Json:
+    """Return what `calibrate` wrote into the file of a folder's road: how sure its drivers are. None: it wrote nothing."""
+    try:
+        value: Json = json.loads((folder / FREEWAY_FILE).read_bytes()).get("calibration")
+    except (OSError, ValueError, AttributeError):
+        return None
+    return value
+
+
 def name_of(folder: Path) -> str:
     """Return the name of the file of a folder's road; empty if it is not known."""
     try:

@@ -35,7 +35,7 @@ from ..model.visibility import visible_rectangles
 from ..roads import rows
 from ..roads.fixed_roads import FILE, VARIANT, FixedRoad
 from ..roads.program import LONG_ROAD, Times
-from ..roads.new_road import clock_of, name_of
+from ..roads.new_road import calibration_of, clock_of, name_of
 from ..roads.roads import QueryRoad
 from ..roads.screen import first_step
 from ..roads.turns import MORE, Job, More
@@ -407,7 +407,7 @@ class Questions:
         begin = day.shift(-self._units.begin)
         clock = (begin.to_text(0), *(None if one is None else str(one) for one in (begin.date, begin.zone)))
         asked: ReportQuestion = {"compared": compared, "title": title, "works": works, "clock": clock, "days": number or report.DAYS,
-                                 "approach": approach}
+                                 "approach": approach, "calibration": calibration_of(self._keeper.folder)}
         said = await self._reports.ask_in_turn(index, asked, compared["program"])
         if "why" in said:
             raise Refused("TooLong", said["why"])

@@ -47,6 +47,7 @@ from ..program.errors import Fault, LabError, describe_error
 from ..program.scripts import read_script, check_same_road
 from ..reports.outputs import format_csv, prepare_folder
 from ..roads.demand import Supply
+from ..roads.freeway_files import NOT_IN_INTERVAL
 from ..roads.units import Units, count_things, format_fixed
 
 PICTURE = Path(__file__).with_name("differences.gnuplot")
@@ -195,7 +196,7 @@ def compare_over_days(given: argparse.Namespace) -> None:
     print("".join(f"{one}\n" for one in warn_few_days(given.days)), end="", file=sys.stderr, flush=True)
     write_and_print(given.out, "days.csv", format_rows(rows))
     write_table(given.out, "by_day.csv", format_days(days))
-    print("".join(f"{note}\n" for note in [*days.notes, *read_notes(given)]), end="")
+    print("".join(f"{note}\n" for note in [*days.notes, *(f"{one}{NOT_IN_INTERVAL}" for one in read_notes(given))]), end="")
     # All hours include those of cars that wait.
     draw_differences(given.out, days, next((row for row in rows if row.figure.key == "all hours"), rows[0]))
 

@@ -267,7 +267,7 @@ def run_freeway(figures: Figures, folder: Path, then: Figures | None = None) -> 
     demand = format_demands(road, inlets, start)
     print_lines(road.notes[before:], end="\n")
     units: dict[str, object] = {"metres": METRES, "seconds": 1, **({"origin": road.approach, "begin": road.lead} if road.approach else {}),
-             **({"notes": notes} if (notes := describe_calibration(figures.calibration)) else {})}
+             **({"notes": notes} if (notes := describe_calibration(figures.calibration, days=1)) else {})}
     write_lines(folder, "units.json", [json.dumps(units)])
     script = with_commands(start, list_queries(road))
     write_tables(folder, "", make_tables(figures, road, demand, run_and_write(folder, "script.jsonl", "replies.jsonl", script)))

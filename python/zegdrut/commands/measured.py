@@ -395,7 +395,7 @@ def compare(given: argparse.Namespace, out: Path) -> None:
     write_table(folder, "intervals", model, format_records(make_interval_records(model, days)))
     print()
     print_lines([*format_shares(measured, hours), *congestion.describe(),
-                 *describe_calibration(None if given.demand == "counts" else figures.calibration)])
+                 *describe_calibration(None if given.demand == "counts" else figures.calibration, given.days)])
     window = format_window(model)
     (folder / f"comparison-{model.name}-{window}.svg").write_text(draw_comparison(model, days), encoding="utf-8")
     (folder / f"space-time-{model.name}-{window}.svg").write_text(draw_space_time(model), encoding="utf-8")

@@ -5,8 +5,8 @@
 ROAD.json is a freeway as `zegdrut freeway` reads it. It is compared with OTHER.json, a file of the same road. By default it is
 compared with the same road without its sections and stalled cars, if it has any. With two or three files after --against the report shows all
 of these roads side by side, and how each differs from the first one. Each day is a seed: all roads of a day have the same drivers. Each run begins some minutes before the window, so that the road is not empty when the window begins: earlier by twice the
-free travel time, unless --warm-up says otherwise. With --counts the report also compares ROAD.json with measured counts. It then
-takes the options of `zegdrut measured`. It writes report-NAME-0630-0930.html, and into the same folder the table, the series and the
+free travel time, unless --warm-up says otherwise. With --counts the report also compares the road before, the first one, with measured counts. It
+then takes the options of `zegdrut measured`. It writes report-NAME-0630-0930.html, and into the same folder the table, the series and the
 demand as CSV with units.
 """
 from __future__ import annotations
@@ -94,6 +94,11 @@ class Request:
     """Whether cars that cannot enter wait before the road."""
 
     @property
+    def first(self) -> Figures:
+        """Return the first road: the others are compared with it, and it is compared with measured counts."""
+        return [*self.others, self.figures][0]
+
+    @property
     def window(self) -> Window:
         """Return the window of all figures."""
         first = to_steps(self.warm)
@@ -127,7 +132,8 @@ def read_request(given: argparse.Namespace) -> Request:
         figures = dataclasses.replace(figures, date=dated.date)
         others = [dataclasses.replace(other, date=dated.date) for other in others]
     return Request(figures, others, names, warm_up_minutes(figures) if given.warm_up is None else given.warm_up, measured,
-                   given.road.stem if given.against is None else f"{given.road.stem} compared with {join_names([one.stem for one in given.against])}",
+                   given.road.stem if given.against is None else
+                   f"{join_names([one.stem for one in (*given.against[1:], given.road)])} compared with {given.against[0].stem}",
                    not given.no_queue)
 
 
@@ -151,6 +157,12 @@ def read_others(given: argparse.Namespace, figures: Figures) -> tuple[list[Figur
         raise Fault(f"two of the files have the name {next(name for name in names if names.count(name) > 1)}: the report calls roads by the names "
                     "of their files, so rename one")
     return others, names
+
+
+def find_first_file(given: argparse.Namespace) -> Path:
+    """Return the file of the first road."""
+    files: Sequence[Path] = [*(given.against or []), given.road]
+    return files[0]
 
 
 def join_names(names: Sequence[str]) -> str:
@@ -188,12 +200,12 @@ def with_drivers(figures: Figures, drivers: Alternative) -> Figures:
                                ramps=[(km, times(demand)) for km, demand in figures.ramps])
 
 
-def describe_sureness(request: Request) -> list[str]:
-    """Return sentences that say how sure the drivers of the roads are."""
+def describe_sureness(request: Request, days: int) -> list[str]:
+    """Return sentences that say how sure the drivers of the roads are, beside figures of some days."""
     calibrations = {one.calibration for one in (*request.others, request.figures)}
     if len(calibrations) > 1:
-        return ["The files have different calibrations, so this report does not show how far the figures move with drivers that fit the counts as well."]
-    return [f"{one[0].upper()}{one[1:]}." for one in describe_calibration(request.figures.calibration)]
+        return ["the files have different calibrations, so this report does not show how far the figures move with drivers that fit the counts as well"]
+    return describe_calibration(request.figures.calibration, days)
 
 
 def describe_works(figures: Figures) -> list[str]:
@@ -276,14 +288,14 @@ def make_lines_html(lines: Sequence[str]) -> str:
             + "".join("<tr>" + "".join(f"<td>{escape(cell)}</td>" for cell in row) + "</tr>" for row in rows) + "</tbody></table>")
 
 
-def make_counts_html(given: argparse.Namespace, model: Model) -> str:
-    """Return the part that compares the road with measured counts, as HTML."""
+def make_counts_html(given: argparse.Namespace, request: Request, model: Model) -> str:
+    """Return the part that compares the first road with measured counts, as HTML."""
     measured, judged = model.measured, simulate_segments(model, list_segments(model), given.days)
     days, congestion = [one.passed for one in judged], Congestion(model, judged, given.congested)
     hours = compare_hours(measured, days)
     notes = make_list_html(measured.notes) if measured.notes else ""
-    whose = "the measured demand" if given.demand == "counts" else f"the demand of {given.road.name}"
-    only = f" Only {given.road.name} is compared with the counts, with its works." if given.against or model.figures.sections else ""
+    whose = "the measured demand" if given.demand == "counts" else f"the demand of {find_first_file(given).name}"
+    only = f" Only the road {request.names[0]} is compared with the counts." if request.others else ""
     shares = "; ".join([*format_shares(measured, hours), *congestion.describe()]) + "."
     return (f"<h2>Comparison with measured counts</h2><p>{escape(make_title(model))}, mean of {count_things(given.days, 'day')} with {escape(whose)}."
             f"{escape(only)} {escape(shares)}</p>" + notes + make_lines_html(format_hours(model, hours))
@@ -305,9 +317,9 @@ def make_page(given: argparse.Namespace, request: Request, roads: Sequence[Road]
         title=title, facts=[f"{format_distance(road.to_km(road.length))} km, one lane, {drivers}", *describe_approach(road.units), *describe_demands(request)],
         demand=make_demand_chart(list_demands(request)), works=list_works(request),
         notes=road.notes, clock=clock, window=window, length=road.length, detectors=road.detectors, sides=sides, days=days,
-        rows=tables[0], others=tables[1:], seed=figures.seed, closed=closed, more="" if model is None else make_counts_html(given, model),
+        rows=tables[0], others=tables[1:], seed=figures.seed, closed=closed, more="" if model is None else make_counts_html(given, request, model),
         remarks=[*OTHER_DAYS[:bool(request.warm)], *explain_outflow(road.drivers, [list(map(Waits.of, runs)) for runs in days])], ranges=ranges,
-        sure=describe_sureness(request), has_approach=given.show_approach))
+        sure=describe_sureness(request, given.days), has_approach=given.show_approach))
 
 
 # The command
@@ -348,7 +360,7 @@ def write_report(given: argparse.Namespace, out: Path) -> None:
     model = None
     if request.measured is not None:
         report_progress("measuring the inflow chances for the comparison with counts")
-        model = make_model(given.road.stem, figures, request.measured, choose_factor(given))
+        model = make_model(find_first_file(given).stem, request.first, request.measured, choose_factor(given))
     roads, sides = make_sides(request)
     each = []
     for place, of_drivers in enumerate([sides, *(make_sides(one)[1] for one in list_alternatives(request))]):

@@ -139,6 +139,8 @@ class Figures:
         return found
 
 
+NOT_IN_INTERVAL = ": ± does not include this"
+"""The end of the sentence on a calibration, beside figures with ±."""
 NUMBERS = {"length": "a number of km", "limit": "a number of km/h", "slowing": "a chance from 0 to 1", "minutes": "a number of minutes",
            "piece": "a number of minutes", "seed": "a whole number, 0 or more", "zone": "a number of km, or null",
            "start": "a chance from 0 to 1, or null", "entry": "a number of km, or null",
@@ -205,14 +207,10 @@ class Reader:
 
     def calibration(self, value: Json) -> Calibrated:
         """Read what `calibrate` wrote. Fault: it is something else."""
-        fields = Calibrated._fields
-        given = value if isinstance(value, dict) and set(value) == set(fields) else {}
-        both = [one for one in (given.get("less"), given.get("more")) if isinstance(one, dict) and set(one) == set(Alternative._fields)]
-        numbers = [given.get("delay"), *(number for one in both for number in one.values())]
-        if len(both) < 2 or not all(is_number(number) and number >= 0 for number in numbers):
+        found = read_calibration(value)
+        if found is None:
             raise self.fault("calibration", value, "what `calibrate` wrote: leave the field out, or calibrate the road again")
-        less, more = (Alternative(**cast("dict[str, float]", one)) for one in both)
-        return Calibrated(cast(float, given["delay"]), less, more)
+        return found
 
     def read_record(self, kind: type[Placed], given: Json, name: str) -> Placed:
         """Read a section or a stalled car, from a list or an object. Times become minutes."""
@@ -344,11 +342,22 @@ def write_road(path: Path, source: Path, figures: Figures) -> None:
                     + "}\n", encoding="utf-8")
 
 
-def describe_calibration(calibration: Calibrated | None) -> list[str]:
-    """Return a sentence that says how sure the drivers of a calibrated road are."""
+def read_calibration(value: Json) -> Calibrated | None:
+    """Return what `calibrate` wrote, or None if a value is something else."""
+    given = value if isinstance(value, dict) and set(value) == set(Calibrated._fields) else {}
+    both = [one for one in (given.get("less"), given.get("more")) if isinstance(one, dict) and set(one) == set(Alternative._fields)]
+    numbers = [given.get("delay"), *(number for one in both for number in one.values())]
+    if len(both) < 2 or not all(is_number(number) and number >= 0 for number in numbers):
+        return None
+    less, more = (Alternative(**cast("dict[str, float]", one)) for one in both)
+    return Calibrated(cast(float, given["delay"]), less, more)
+
+
+def describe_calibration(calibration: Calibrated | None, days: int) -> list[str]:
+    """Return a sentence that says how sure the drivers of a calibrated road are, beside figures of some days: only those of several days have ±."""
     return [] if calibration is None else [
         f"calibration: {format_range(calibration)} vehicle hours of delay per lane on the calibrated day by drivers that fit its counts equally well "
-        f"within chance, and {calibration.delay:.1f} by those of the file: ± does not include this"]
+        f"within chance, and {calibration.delay:.1f} by those of the file{NOT_IN_INTERVAL * (days > 1)}"]
 
 
 def format_range(calibration: Calibrated) -> str:
