@@ -107,7 +107,8 @@ class Reports(Case):
             async with Here(plan={**SMALL, "words": words}) as here:
                 seat, = await here.join("Ada")
                 await here.lab.road_clock.set_clock(to=600)
-                for file, wanted in ((None, []), ({}, []), (calibrated, [end])):
+                cases: list[tuple[dict[str, Any] | None, list[str]]] = [(None, []), ({}, []), (calibrated, [end])]
+                for file, wanted in cases:
                     if file is not None:
                         (here.keeper.folder / FREEWAY_FILE).write_text(json.dumps(file), encoding="utf-8")
                     with mock.patch("server.figures.report.DAYS", 2):
