@@ -134,7 +134,8 @@ def read_arguments(words: Sequence[str] | None) -> argparse.Namespace:
     add_data_arguments(parser)
     add_congestion_argument(parser)
     parser.add_argument("--bounds", type=Path, metavar="FILE", help="a JSON file with the bounds of slowing, start and factor")
-    parser.add_argument("--points", type=int, default=Search.points, metavar="N", help="points per round, 10 or more (default: %(default)s)")
+    parser.add_argument("--points", type=int, default=Search.points, metavar="N", help=f"points of each round but the first, 10 or more (default: %(default)s); the "
+                        f"first of {Search.rounds} rounds has {Search.first_points}")
     parser.add_argument("--days", type=int, default=Search.days, metavar="N", help="simulated days per point (default: %(default)s)")
     parser.add_argument("--fit", type=read_dates, default=[], metavar="DATE,..", help="fit to these days of the counts (default: the date of the road)")
     parser.add_argument("--check", type=read_dates, default=[], metavar="DATE,..", help="compare the result with these days of the counts")
@@ -237,7 +238,8 @@ def run_calibration(given: argparse.Namespace, out: Path) -> None:
         print_lines([NO_CONGESTION])
     program_path()  # (its note is printed here, and not by each process)
     limits = list_limits(figures, [day for _, day in days], bounds)
-    report_progress(f"trying {search.total} points with the {count_things(len(limits), 'limit')} {', '.join(f'{one:g}' for one in limits)} km/h")
+    report_progress(f"trying {search.total * len(limits)} points, {search.total} with {'each ' * (len(limits) > 1)}limit: "
+                    f"{', '.join(f'{one:g}' for one in limits)} km/h. A last round follows")
     found = search_limits(given, days, bounds, search, limits)
     figures_of_file = figures
     days, checked = ([(dataclasses.replace(one, limit=found.limit), day) for one, day in each] for each in (days, checked))
@@ -376,8 +378,8 @@ def describe_alternatives(alternatives: Alternatives, found: Calibration, sure: 
     later = sum(bool(one.round) for one in (*found.tried, *found.last))
     at_stations = "" if congestion.delay_at_stations is None else f" and {format_both(congestion.delay_at_stations)} simulated"
     return (f"delay of congested traffic in vehicle hours per lane: by the cars that pass the stations {sure.delay.measured:.1f} measured{at_stations}, "
-            f"by all cars between them {format_both(sure.delay)} simulated. Calibration: {sure.describe()} ({alternatives.points} of {later} points, with "
-            f"errors up to {alternatives.chance:.1f} above the smallest). ± does not include this")
+            f"by all cars between them {format_both(sure.delay)} simulated. Calibration: {sure.describe()} ({alternatives.points} of the {later} points after "
+            f"the first round, with errors up to {alternatives.chance:.1f} above the smallest). ± does not include this")
 
 
 def main(words: Sequence[str] | None = None, out: Path = Path("out")) -> int:
