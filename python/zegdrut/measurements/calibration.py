@@ -405,22 +405,20 @@ def calibrate(name: str, days: Sequence[MeasuredDay], bounds: Bounds = Bounds(),
             faults.append(fault)
     if not found:
         raise faults[0]
-
-    def tell_last(done: int, whole: int, best: Trial) -> None:
-        progress(total + done, total + whole, best)
-    return check_result(name, days, min(found, key=lambda one: one.least_error), bounds, search, tell_last, jobs, executor, ship)
+    return check_result(name, days, min(found, key=lambda one: one.least_error), bounds, search, total, progress, jobs, executor, ship)
 
 
 # How sure the result is
 
-def check_result(name: str, days: Sequence[MeasuredDay], found: Calibration, bounds: Bounds, search: Search,
+def check_result(name: str, days: Sequence[MeasuredDay], found: Calibration, bounds: Bounds, search: Search, done: int,
                  progress: Callable[[int, int, Trial], None], jobs: int | None, executor: Executor | None, ship: bool) -> Calibration:
-    """Make the last round: try the result, the points opposite those that fit as well, and the drivers of the file, on the same new days."""
+    """Make the last round: try the result, the points opposite those that fit as well, and the drivers of the file, on the same new days. `done` points
+    were tried before."""
     figures, points = days[0][0], [found.best, *list_opposite(found, bounds)]
 
     def try_new(days: Sequence[MeasuredDay], new: Sequence[Point], before: int) -> list[Trial]:
         def tell(trials: list[Trial]) -> None:
-            progress(before + len(trials), len(points) + 1, min(trials, key=lambda one: one.error))
+            progress(done + before + len(trials), done + len(points) + 1, min(trials, key=lambda one: one.error))
         return try_points(functools.partial(evaluate_alone, name, days), new, search.rounds, search.days, tell, jobs, executor, ship)
     last = tuple(try_new([(dataclasses.replace(one, limit=found.limit), measured) for one, measured in days], points, 0))
     own, = try_new(days, [Point(figures.slowing, figures.start or 0.0, 1.0)], len(points))
