@@ -11,10 +11,10 @@ progress and the best point; to a log it writes a line every ten seconds.
 It prints the result, the terms of the smallest error, the ten best points, and the errors of the result and of the drivers of ROAD.json. It
 writes calibrated-NAME.json (ROAD.json with the fitted drivers, and the measured demand of the main road and of the ramps times the fitted
 factor), tried-NAME.csv (all points with their errors) and surface-NAME.svg (a picture of the errors). zegdrut/measurements/calibration.py
-defines the error. An error of about 2 is as good as chance allows. The command warns if the smallest error is above 5, and if a result is
-within 5 % of the bounds of its range. Then it compares the congestion of the result with the measured one, and says how far the delay moves
-with drivers that fit as well within chance. calibrated-NAME.json has these drivers, too, and `zegdrut report` shows how far its figures
-move with them.
+defines the error. An error of about 2 is as good as chance allows. The command warns if the smallest error or that of the result is above
+5, and if a result is within 5 % of the bounds of its range. Then it compares the congestion of the result with the measured one, and says
+how far the delay moves with drivers that fit as well within chance. calibrated-NAME.json has these drivers, too, and `zegdrut report` shows
+how far its figures move with them.
 """
 from __future__ import annotations
 
@@ -117,6 +117,9 @@ def list_warnings(found: Calibration, bounds: Bounds) -> list[str]:
     if least > MOST_ERROR:
         warnings.append(f"the smallest error is {least:.1f}, but about {CHANCE_ERROR} is as good as chance allows: the calibrated road does "
                         f"not fit these counts. Compare it with them before you use it, and check the counts and the road")
+    elif found.last and found.last[0].error > MOST_ERROR:
+        warnings.append(f"the error of the result is {found.last[0].error:.1f}, but about {CHANCE_ERROR} is as good as chance allows, and a point has "
+                        f"{least:.1f}: the search has not found the minimum. Try more points or days")
     warnings += describe_terms(misfit, found.limit) if misfit is not None else []
     for quantity, name, value, (low, high) in zip(QUANTITIES, NAMES, found.best, bounds[:3]):
         bound = low if value - low < high - value else high
