@@ -1,7 +1,7 @@
 """Give the module `zegdrut.measurements.comparison` its public name."""
 from .measurements.comparison import (
     Day as Day, GOOD as GOOD, Hour as Hour, LeftOut as LeftOut, MOST_AT_INLET as MOST_AT_INLET, Model as Model, NOT_WHOLE as NOT_WHOLE,
-    NO_COUNT as NO_COUNT, SAME_PLACE as SAME_PLACE, SpeedError as SpeedError, compare_hours as compare_hours,
+    NO_COUNT as NO_COUNT, Passed as Passed, Run as Run, SAME_PLACE as SAME_PLACE, SpeedError as SpeedError, compare_hours as compare_hours,
     compare_speeds as compare_speeds, compute_geh as compute_geh, compute_share_below as compute_share_below,
     compute_speed as compute_speed, compute_total_rmse as compute_total_rmse, estimate_days as estimate_days,
     list_left_out as list_left_out, make_interval_records as make_interval_records, make_model as make_model,
