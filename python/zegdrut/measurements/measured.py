@@ -24,6 +24,9 @@ MOST_FLOW = 3_000.0
 """The highest plausible flow in cars per hour and lane. Higher flows count as missing."""
 COUNTING_ERROR = 0.05
 """The share of the flow that counting errors may lose between two stations."""
+RAMP_ERROR, MAIN_ERROR = 0.2, 0.02
+"""A ramp station is not named if its count differs by less of itself from the rise of the flow, or by less of the main flow: two good stations
+may differ so much."""
 LONGEST_SHIFT, SHORTEST_SHIFT = 7_200, 600
 """The most and the fewest seconds that a clock is found to be wrong. Cars take less than this from one station to the next."""
 LEAST_GAIN = 2.0
@@ -299,25 +302,66 @@ def check_clock_changes(counts: Counts, clock: Clock, seconds: int, notes: list[
 
 def cut_at_exit(lines: list[Series], ramps: list[Series]) -> tuple[list[Series], str, list[str]]:
     """Return the stations up to the first one after which the flow falls by more than counting error, a sentence if there is one, and
-    sentences on stations that count more or less than both neighbours, and on a flow that rises without a ramp. The flow may also rise and
-    fall at ramps without a station."""
+    sentences on stations that count more or less than both neighbours, on a flow that rises without a ramp, and on ramp stations that do not
+    fit their neighbours. The flow may also rise and fall at ramps without a station."""
     doubts, doubted = list[str](), set[str]()
     for place, (one, following) in enumerate(zip(lines, lines[1:])):
         before, after = lines[place - 1] if place else None, lines[place + 2] if place + 2 < len(lines) else None
         expected, counted = compare_flows(one, following, ramps)
-        if differs(counted, expected) and one.station.name not in doubted and (after is None or differs(*compare_flows(one, after, ramps)[::-1])):
+        if differs(counted, expected) and one.station.name not in doubted and (
+                after is None or differs(*compare_flows(one, after, ramps, following)[::-1])):
             doubts.append(describe_rise(one, following, expected, counted, ramps, is_first=before is None, is_last=after is None))
         if not differs(expected, counted):
             continue
-        if before is not None and is_too_high(before, one, following, ramps):
+        if before is not None and is_odd(before, one, following, ramps):
             doubts.append(describe_odd(one, before, following, counted / expected))
             doubted.add(one.station.name)
-        elif after is not None and not differs(*compare_flows(one, after, ramps)):
+        elif after is not None and is_odd(one, following, after, ramps):
             doubts.append(describe_odd(following, one, after, expected / counted))
             doubted.add(following.station.name)
         else:
-            return lines[:place + 1], describe_fall(one, following, expected, counted, ramps, is_first=before is None, is_last=after is None), doubts
-    return lines, "", doubts
+            is_high = before is None or fits_without(before, one, following, ramps)
+            is_low = after is None or fits_without(one, following, after, ramps)
+            fall = describe_fall(one, following, expected, counted, ramps, is_high, is_low)
+            return lines[:place + 1], fall, [*doubts, *doubt_ramps(lines[:place + 1], ramps)]
+    return lines, "", [*doubts, *doubt_ramps(lines, ramps)]
+
+
+def fits_without(before: Series, one: Series, after: Series, ramps: list[Series]) -> bool:
+    """Return whether the flow after a station does not fall below that before it, and these two are nearer to each other than to its own. All
+    three are compared in the intervals that all of them counted."""
+    expected, counted = compare_flows(before, after, ramps, one)
+    others = [abs(more - less) for more, less in (compare_flows(before, one, ramps, after), compare_flows(one, after, ramps, before))]
+    return not differs(expected, counted) and abs(expected - counted) < min(others)
+
+
+def is_odd(before: Series, one: Series, after: Series, ramps: list[Series]) -> bool:
+    """Return whether a station counts more than both neighbours, or less than both, and they fit each other."""
+    into, out = compare_flows(before, one, ramps, after), compare_flows(one, after, ramps, before)
+    return fits_without(before, one, after, ramps) and any(differs(*high) and differs(*low) for high, low in (
+        (into[::-1], out), (into, out[::-1])))
+
+
+def doubt_ramps(lines: list[Series], ramps: list[Series]) -> list[str]:
+    """Return a sentence for each ramp station alone between two stations whose flows do not differ by what it counts. The cars of the main line
+    pass both, so only those that join vary by chance. Where the main line itself differs, nothing is said of the ramp here."""
+    said = []
+    for one, following in zip(lines, lines[1:]):
+        between = list_joining(one, following, ramps)
+        before, joined, after = (cars * lanes for cars, lanes in zip(
+            add_up_flows(one, following, ramps), (one.station.lanes, following.station.lanes, following.station.lanes)))
+        expected, counted = compare_flows(one, following, ramps)
+        rise = after - before
+        if len(between) != 1 or differs(expected, counted) or differs(counted, expected) or abs(joined - rise) <= max(
+                RAMP_ERROR * joined, MAIN_ERROR * after, 3 * math.sqrt(joined + max(rise, 0.0))):
+            continue
+        name, share = between[0].station.name, 100 * abs(joined - rise) / after
+        ramp, first, second = ("over", "over", "under") if joined > rise else ("under", "under", "over")
+        scale = f": then use --scale {name}={rise / joined:.3f}" if LEAST_FACTOR * joined <= rise <= joined / LEAST_FACTOR else ""
+        said.append(f"the ramp station {name} (km {between[0].station.km:g}) counts {joined:,.0f} cars, but from station {one.station.name} to "
+                    f"{following.station.name} the flow rises by {rise:,.0f} cars in the same intervals. {name} {ramp}-counts{scale}, or "
+                    f"{one.station.name} {first}-counts or {following.station.name} {second}-counts by {share:.1f} %")
+    return said
 
 
 def describe_odd(one: Series, before: Series, after: Series, factor: float) -> str:
@@ -331,10 +375,10 @@ def describe_odd(one: Series, before: Series, after: Series, factor: float) -> s
 def suspect_ramp(one: Series, following: Series, expected: float, counted: float, ramps: list[Series]) -> list[str]:
     """Return what explains that the flow after a ramp is not that before it and of the ramp together: that the station of the ramp, if there is a
     single one, counts too many cars or too few."""
-    between = [ramp for ramp in ramps if one.station.km <= ramp.station.km < following.station.km]
+    between = list_joining(one, following, ramps)
     if len(between) != 1:
         return []
-    joined = expected - compare_flows(one, following, [])[0]
+    _, joined, _ = add_up_flows(one, following, ramps)
     factor = (joined + counted - expected) / max(joined, 1.0)
     name = between[0].station.name
     return [f"perhaps the ramp station {name} {'over' if factor < 1 else 'under'}-counts: then use --scale {name}={factor:.3f}"] * (
@@ -352,10 +396,10 @@ def describe_rise(one: Series, following: Series, expected: float, counted: floa
             + ", or ".join(readings))
 
 
-def describe_fall(one: Series, following: Series, expected: float, counted: float, ramps: list[Series], is_first: bool, is_last: bool) -> str:
-    """Return a sentence on a flow that falls, and what it may mean."""
-    readings = [f"{one.station.name} over-counts: then use {suggest_correction(one, counted / expected)}"] * is_first
-    readings += [f"{following.station.name} under-counts: then use {suggest_correction(following, expected / counted)}"] * is_last
+def describe_fall(one: Series, following: Series, expected: float, counted: float, ramps: list[Series], is_high: bool, is_low: bool) -> str:
+    """Return a sentence on a flow that falls, and what it may mean: the first station may count too many cars, or the second one too few."""
+    readings = [f"{one.station.name} over-counts: then use {suggest_correction(one, counted / expected)}"] * is_high
+    readings += [f"{following.station.name} under-counts: then use {suggest_correction(following, expected / counted)}"] * is_low
     readings += suspect_ramp(one, following, expected, counted, ramps)
     reading = f" If there is no off-ramp, {', or '.join(readings)}." if readings and counted >= LEAST_FACTOR * expected else ""
     return (f"from station {one.station.name} (km {one.station.km:g}) to {following.station.name} (km {following.station.km:g}) "
@@ -363,22 +407,30 @@ def describe_fall(one: Series, following: Series, expected: float, counted: floa
             f"Only stations up to {one.station.name} are compared.{reading} To compare all stations use --no-ramp-check")
 
 
-def compare_flows(one: Series, following: Series, ramps: list[Series]) -> tuple[float, float]:
-    """Return the cars of a station and of the ramps up to a following one, and the cars of that one, in the intervals that both counted."""
-    both = [index for index, (before, after) in enumerate(zip(one.cars, following.cars)) if before is not None and after is not None]
-    joining = math.fsum(ramp.cars[index] or 0 for ramp in ramps for index in both if one.station.km <= ramp.station.km < following.station.km)
-    return math.fsum(one.cars[index] or 0 for index in both) + joining, math.fsum(following.cars[index] or 0 for index in both)
+def list_joining(one: Series, following: Series, ramps: list[Series]) -> list[Series]:
+    """Return the ramps from a station up to a following one."""
+    return [ramp for ramp in ramps if one.station.km <= ramp.station.km < following.station.km]
+
+
+def add_up_flows(one: Series, following: Series, ramps: list[Series], also: Series | None = None) -> tuple[float, float, float]:
+    """Return the cars per lane of a station, of the ramps up to a following one, and of that one, in the intervals that both counted, and the ramps
+    between, and a third station with its ramps."""
+    known = sorted([one, following, *([also] if also else [])], key=lambda each: each.station.km)
+    needed = [*known, *list_joining(known[0], known[-1], ramps)]
+    places = [place for place in range(len(one.cars)) if all(each.cars[place] is not None for each in needed)]
+    before, after = (math.fsum(each.cars[place] or 0 for place in places) for each in (one, following))
+    return before, math.fsum(ramp.cars[place] or 0 for ramp in list_joining(one, following, ramps) for place in places), after
+
+
+def compare_flows(one: Series, following: Series, ramps: list[Series], also: Series | None = None) -> tuple[float, float]:
+    """Return the cars of a station and of the ramps up to a following one, and the cars of that one. `also`: see `add_up_flows`."""
+    before, joined, after = add_up_flows(one, following, ramps, also)
+    return before + joined, after
 
 
 def differs(more: float, less: float) -> bool:
     """Return whether one flow is above another by more than counting error."""
     return more - less > max(COUNTING_ERROR * more, 3 * math.sqrt(more))
-
-
-def is_too_high(before: Series, one: Series, following: Series, ramps: list[Series]) -> bool:
-    """Return whether a station counts more than the one before it, and the one after it no less than that one."""
-    expected, counted = compare_flows(before, one, ramps)
-    return differs(counted, expected) and not differs(*compare_flows(before, following, ramps))
 
 
 def suggest_correction(one: Series, factor: float) -> str:
