@@ -428,7 +428,8 @@ def format_shares(measured: Measured, hours: Sequence[Hour]) -> list[str]:
     found = [f"{len(hours)} of {count_things(len(hours) + len(left_out), 'station hour')} compared"]
     scaled = sum(one.intervals < HOUR // measured.interval for one in hours)
     if scaled:
-        found.append(f"{count_things(scaled, 'station hour')} with missing intervals: both flows are of the others, scaled to an hour")
+        found.append(f"rows are missing in {count_things(scaled, 'compared station hour')}: measured and simulated flows there are those of the other rows, "
+                     "scaled to an hour")
     if left_out:
         found.append("left out: " + "; ".join(f"station {one.station} from {measured.clock.to_text(one.first)} ({one.reason})" for one in left_out))
     if not hours:

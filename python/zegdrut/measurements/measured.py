@@ -33,6 +33,8 @@ LEAST_GAIN = 2.0
 """Counts fit clearly better at other times if their misfit is smaller by this factor."""
 LEAST_FALL, LEAST_FAR_GAIN = 0.75, 1.25
 """If both stations are on one side, the misfit to the nearer one must also fall by so much, and that to the other by this factor."""
+A_DAY, FARTHEST_ROW = 86_400, 3_600
+"""The seconds of a day, and those from the window to the farthest row with which a demand is interpolated."""
 TIME_MEAN, SPACE_MEAN = "time-mean", "space-mean"
 """What measured speeds may be: the mean over the cars that pass a station, or the mean over the cars on the road there, such as a harmonic mean or
 flow / density."""
@@ -47,6 +49,8 @@ class Series:
     station: Station
     cars: list[float | None]
     speeds: list[float | None]
+    outside: tuple[tuple[int, float], ...] = ()
+    """The places and cars of the intervals that were counted in the hour before the window and in the hour after it."""
 
     @property
     def total(self) -> float:
@@ -85,8 +89,8 @@ class Measured:
 
 def make_rates(series: Series, interval: int) -> Rates:
     """Convert a series to a demand over time in steps and cars per hour. Fault: all intervals are missing."""
-    known = [(place, cars) for place, cars in enumerate(series.cars) if cars is not None]
-    if not known:
+    known = sorted([*series.outside, *((place, cars) for place, cars in enumerate(series.cars) if cars is not None)])
+    if len(known) == len(series.outside):
         raise Fault(f"station {series.station.name} has no count in the window, so its demand is unknown: check its times and begin of the road")
     found: Rates = []
     for place in range(len(series.cars)):
@@ -190,19 +194,20 @@ def check_window(counts: Counts, clock: Clock, seconds: int, placed: dict[str, l
 
 def note_interpolated(series: Series, clock: Clock, interval: int, notes: list[str]) -> None:
     """Add a note if a station that gives a demand has missing intervals, whose demand `make_rates` interpolates."""
-    known = [place for place, cars in enumerate(series.cars) if cars is not None]
-    if not known:
+    known = sorted([place for place, _ in series.outside] + [place for place, cars in enumerate(series.cars) if cars is not None])
+    if len(known) == len(series.outside):
         return
-    missing = [place for place in range(known[0], known[-1]) if series.cars[place] is None]
+    missing = [place for place, cars in enumerate(series.cars) if cars is None and known[0] < place < known[-1]]
     if missing:
         times = ", ".join(clock.to_text(place * interval) for place in missing[:MOST_LISTED]) + (", .." if len(missing) > MOST_LISTED else "")
         notes.append(f"the demand of station {series.station.name} is interpolated in {count_things(len(missing), 'interval')} without a "
                      f"count, at {times}")
-    for number, first, which in ((known[0], 0, "first"), (len(series.cars) - 1 - known[-1], known[-1] + 1, "last")):
-        if number:
-            notes.append(f"the demand of station {series.station.name} is unknown in {count_things(number, 'interval')}, "
-                         f"{clock.to_text(first * interval)} to {clock.to_text((first + number) * interval)}: it is assumed to be that of its "
-                         f"{which} count. Choose the window of the counts")
+    for first, end, which in ((0, known[0], "first"), (known[-1] + 1, len(series.cars), "last")):
+        if first < end:
+            begin, until = clock.to_text(first * interval), clock.to_text(end * interval)
+            advice = f"Begin the window at {until}" if which == "first" else f"End the window at {begin}"
+            notes.append(f"the demand of station {series.station.name} is unknown in {count_things(end - first, 'interval')}, {begin} to {until}: it is "
+                         f"assumed to be that of its {which} count. {advice}, or give its counts of {begin} to {until}")
 
 
 def place_rows(counts: Counts, clock: Clock, notes: list[str]) -> list[PlacedRow]:
@@ -241,16 +246,20 @@ def make_series(counts: Counts, station: Station, rows: list[PlacedRow], lanes: 
     cars: list[float | None] = [None] * number
     speeds: list[float | None] = [None] * number
     lines = [0] * number
-    odd, high, noted = [], [], set[int]()
+    odd, high, noted, outside = [], [], set[int](), dict[int, float]()
     for row, step in rows:
+        count = None if row.cars is None else row.cars * (interval / HOUR if counts.are_per_hour else 1)
         if not 0 <= step < seconds:
+            # A clock time just before the window was placed on the next day.
+            near = step - A_DAY if isinstance(row.time, datetime.time) and step >= A_DAY - FARTHEST_ROW else step
+            if count and count <= MOST_FLOW * station.lanes * interval / HOUR and -FARTHEST_ROW <= near < seconds + FARTHEST_ROW and near % interval == 0:
+                outside[near // interval] = count / lanes
             continue
         if step % interval:
             odd.append(row.line)
             continue
         place = step // interval
         lines[place] = row.line
-        count = None if row.cars is None else row.cars * (interval / HOUR if counts.are_per_hour else 1)
         if count is None or count > MOST_FLOW * station.lanes * interval / HOUR:
             noted.add(place)
             if count is not None:
@@ -279,7 +288,7 @@ def make_series(counts: Counts, station: Station, rows: list[PlacedRow], lanes: 
         own.notes.append(f"{counts.path}: station {station.name} has no row for {len(missing)} interval{'s' * (len(missing) > 1)}, "
                           f"at {times}{behind}")
     notes += own.notes
-    return Series(station, cars, speeds)
+    return Series(station, cars, speeds, tuple(sorted(outside.items())))
 
 
 def is_suspicious(cars: list[float | None], place: int) -> bool:

@@ -173,8 +173,14 @@ def read_number(path: Path, number: int, header: list[str], line: list[str], pla
     except ValueError:
         found = math.nan
     if not math.isfinite(found):
-        raise Fault(f"{path}, line {number}: {header[place]}: {text!r} is not a number")
+        raise make_number_fault(path, number, header[place], text)
     return found
+
+
+def make_number_fault(path: Path, number: int, title: str, text: str) -> Fault:
+    """Make the fault of a text in a line that is not a number."""
+    advice = f": write {text.replace(',', '.')}, with a decimal point" if re.fullmatch(r"[-+]?\d*,\d+", text) else ""
+    return Fault(f"{path}, line {number}: {title}: {text!r} is not a number{advice}")
 
 
 def read_lanes(path: Path, number: int, header: list[str], line: list[str], place: int) -> int:
@@ -231,7 +237,7 @@ def read_value(path: Path, number: int, header: list[str], line: list[str], plac
     try:
         return float(text)
     except ValueError:
-        raise Fault(f"{path}, line {number}: {header[place]}: {text!r} is not a number") from None
+        raise make_number_fault(path, number, header[place], text) from None
 
 
 def read_counts(path: Path, stations: Mapping[str, Station] | None = None, columns: Mapping[str, str] | None = None,
