@@ -14,7 +14,7 @@ import {drawDiagram, legendEntries} from "./picture.mjs";
 import {claimFileName} from "./filenames.mjs";
 import {BOTH, isBeside, need, layersOf, now, roadOf, store, tell} from "./store.mjs";
 import {csvOf, tableOfChanges, tableOfFigures, tableOfTravel} from "./tables.mjs";
-import {METRES_A_CELL, kmText, plural, rangeText} from "./units.mjs";
+import {METRES_A_CELL, PER_LANE, kmText, plural, rangeText} from "./units.mjs";
 import {refreshFixed} from "./variants.mjs";
 import {partShown, periodShown} from "./view.mjs";
 
@@ -184,13 +184,13 @@ async function saveFigures() {
     return;
   }
   if (days) {
-    saveLines(`${comparedText(from, to)}, ${plural(days.days, "day")}`, tableOfFigures(roads, days),
+    saveLines(`${comparedText(from, to)}, ${PER_LANE}, ${plural(days.days, "day")}`, tableOfFigures(roads, days),
       `figures-${days.days}-days.csv`, whose, [from, to]);
     return;
   }
   const said = await askUntilFree({figures: {at, of, from, to}});
   if (said && !("refused" in said)) {
-    saveLines(comparedText(from, to), tableOfFigures(roads, said), "figures.csv", whose, [from, to]);
+    saveLines(`${comparedText(from, to)}, ${PER_LANE}`, tableOfFigures(roads, said), "figures.csv", whose, [from, to]);
   }
 }
 

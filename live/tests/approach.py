@@ -171,7 +171,7 @@ class Roads(Case):
             await ada.ask("send", name="shared")
             await ada.ask("advance", to=last)
             csv = (await ada.ask("csv", what="counts", each=300, **{"from": LEAD, "to": last}))["csv"]
-            self.assertRegex(csv, r"^# counts of the road of Ada, plan\.json, 2026-03-02, 07:00 to 07:10\nfrom,.*\n07:00,07:05,0,0\.3,.*\n07:00,07:05,1,0\.75,")
+            self.assertRegex(csv, r"^# counts of the road of Ada, plan\.json, 2026-03-02, 07:00 to 07:10, per lane\nfrom,.*\n07:00,07:05,0,0\.3,.*\n07:00,07:05,1,0\.75,")
             asked: dict[str, Any] = {"of": ["shared", ada.at], "title": "A road", "works": [], "from": LEAD, "to": last}
             for is_wide, marks in ((False, ["0", "0.5", "1", "1.2"]), (True, ["-1", "-0.5", "0", "0.5", "1", "1.2"])):
                 html = (await ada.ask("report", **asked, approach=is_wide))["html"]

@@ -117,7 +117,7 @@ class Freeways(Case):
                 self.assertAlmostEqual(less + (more - less) * (ramp - low) / (high - low), 200, delta=2)
             await ada.ask("advance", to=900)
             self.assertRegex((await ada.ask("csv", what="counts", each=300, **{"from": 0, "to": 900}))["csv"],
-                             r"^# counts of the road of Ada, plan\.json, 2026-03-02, 07:00 to 07:15\nfrom,to,detector,km,cars,.*\n07:00,07:05,0,0.75,")
+                             r"^# counts of the road of Ada, plan\.json, 2026-03-02, 07:00 to 07:15, per lane\nfrom,to,detector,km,cars,.*\n07:00,07:05,0,0.75,")
             for inlet, before in ((2, []), (0, [[5, 1]]), (0, [[0, 70_000]]), (0, [[1, 9]]), (1, [[1, 9]]), (1, [[0, 9], [0, 8]])):
                 said = await ada.reply("admission", inlet=inlet, start=None, before=before)
                 self.assertEqual(said["refused"], "Range")

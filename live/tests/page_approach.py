@@ -155,7 +155,7 @@ class Approach(BrowserCase):
         tab.script("store.figures.exactKey = ''; notify('figures');")
         counted = self.shown(tab)
         with open(tab.save("Figures as CSV", "figures.csv"), encoding="utf-8", newline="") as file:
-            self.assertEqual(next(file), "# the road of Ada and the shared one, plan.json, 2026-03-02, 07:00 to 07:10\n")
+            self.assertEqual(next(file), "# the road of Ada and the shared one, plan.json, 2026-03-02, 07:00 to 07:10, per lane\n")
             saved = {row["figure"]: [float(row["mine"]), float(row["shared"])] for row in csv.DictReader(file) if "hours" in row["figure"] and row["mine"]}
         for key, name in names.items():
             before, after, _ = wanted[key, None, None]
@@ -176,7 +176,7 @@ class Approach(BrowserCase):
         self.assertEqual(tab.script("return captionText()"), "The road of Ada, 0–1.2 km, 07:00–08:00; the clock is at 07:10")
         path = tab.save("Counts", "counts.csv")
         self.assertEqual(path.name, "counts-plan-Ada-0700-0710.csv")
-        self.assertRegex(path.read_text(encoding="utf-8"), r"^# counts of the road of Ada, plan\.json, 2026-03-02, 07:00 to 07:10\n.*\n07:00,07:05,0,0\.3,")
+        self.assertRegex(path.read_text(encoding="utf-8"), r"^# counts of the road of Ada, plan\.json, 2026-03-02, 07:00 to 07:10, per lane\n.*\n07:00,07:05,0,0\.3,")
         plain, wide = (self.report(tab, name) for name in ("", "With approach"))
         for page, marks in ((plain, ["0", "0.5", "1", "1.2"]), (wide, ["-1", "-0.5", "0", "0.5", "1", "1.2"])):
             (field, *_) = re.findall(r'<svg [^>]*class="field".*?</svg>', page)

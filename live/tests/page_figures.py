@@ -432,7 +432,7 @@ class OneFreeway(BrowserCase):
         path = tab.save("Counts", "counts.csv")
         self.assertEqual(path.name, "counts-plan-Ada-0630-0730.csv")
         head, names, first, *_ = path.read_text(encoding="utf-8").splitlines()
-        self.assertEqual(head, "# counts of the road of Ada, plan.json, 2026-03-02, 06:30 to 07:30")
+        self.assertEqual(head, "# counts of the road of Ada, plan.json, 2026-03-02, 06:30 to 07:30, per lane")
         self.assertTrue(first.startswith("06:30,06:35,0,0.21,"), first)
 
     def test_the_report_is_saved(self) -> None:

@@ -98,7 +98,7 @@ class Numbers(BrowserCase):
     def saved_is(self, tab: Tab, end: str, wanted: Wanted) -> None:
         """Check figures.csv to four digits."""
         with open(tab.save("Figures as CSV", "figures.csv"), encoding="utf-8", newline="") as file:
-            self.assertEqual(next(file), f"# the road of Ada and the shared one, plan.json, 0:00:00 to {end}\n")
+            self.assertEqual(next(file), f"# the road of Ada and the shared one, plan.json, 0:00:00 to {end}, per lane\n")
             rows = {row["figure"]: row for row in csv.DictReader(file)}
         for (key, inlet, detector), values in wanted.items():
             names = SAVED[key] if key != "travel" or detector is None else "km {detector}: travel time from km {inlet}"

@@ -146,7 +146,7 @@ class Variants(BrowserCase):
         line = page.partition("<td>vehicle hours on the road</td>")[2].partition("</tr>")[0]
         self.assertEqual(re.findall("<td>([^<]*)</td>", line)[:6:2], hours)
         for wanted in ("<h1>“night”, “noon” and the shared road: 0:00:00 to 0:10:00</h1>",
-                       "<th>mean of 2 days</th><th>“night”</th><th>±</th><th>“noon”</th><th>±</th><th>shared</th><th>±</th>",
+                       "<th>mean of 2 days, per lane</th><th>“night”</th><th>±</th><th>“noon”</th><th>±</th><th>shared</th><th>±</th>",
                        "<th>difference from “night”</th><th>“noon”</th><th>±</th><th></th><th>shared</th>"):
             self.assertIn(wanted, page)
         self.assertEqual(page.count('class="field"'), 3)
@@ -155,7 +155,7 @@ class Variants(BrowserCase):
 
     def saved_is(self, tab: Tab) -> None:
         table = tab.save("Figures as CSV", "figures.csv").read_text(encoding="utf-8").splitlines()
-        self.assertEqual(table[0], "# “night”, “noon” and the shared road, plan.json, 0:00:00 to 0:10:00")
+        self.assertEqual(table[0], "# “night”, “noon” and the shared road, plan.json, 0:00:00 to 0:10:00, per lane")
         self.assertTrue(table[1].startswith("figure,unit,“night”,“noon”,shared,“noon” minus “night”,shared minus “night”"), table[1])
         changes = tab.save("Changes as CSV", "changes.csv")
         self.assertTrue(changes.name.startswith("changes-plan-night-noon-shared-"), changes.name)

@@ -76,7 +76,7 @@ class Pictures(Case):
         said = await self.ada.ask("csv", what="counts", each=50, **{"from": 0, "to": 100})
         table = list(csv.reader(io.StringIO(said["csv"])))
         counts = await self.counts(**{"from": 0, "to": 100, "each": 50})
-        self.assertEqual(table[0], ["# counts of the road of Ada", " plan.json", " 0:00:00 to 0:01:40"])
+        self.assertEqual(table[0], ["# counts of the road of Ada", " plan.json", " 0:00:00 to 0:01:40", " per lane"])
         self.assertEqual(table[1], ["from", "to", "detector", "km", "cars", "flow in cars/h", "time-mean speed in km/h", "seconds on"])
         wanted = [(f"0:0{50 * span // 60}:{50 * span % 60:02}", f"0:0{(50 * span + 50) // 60}:{(50 * span + 50) % 60:02}",
                    detector, SMALL["detectors"][detector] * 7.5 / 1_000, cars, float(cars * 72),

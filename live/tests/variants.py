@@ -403,7 +403,7 @@ class Compared(Case):
         with mock.patch("server.figures.report.DAYS", 2):
             html = (await soon(self.here.ask(self.seat, "report", of=of, title="Four", works=["a"], **span)))["html"]
         head = "".join(f"<th>{name}</th><th>±</th>" for name in ("shared", "Ada", "“night”", "file"))
-        self.assertIn(f"<th>mean of 2 days</th>{head}", html)
+        self.assertIn(f"<th>mean of 2 days, per lane</th>{head}", html)
         later = "".join(f"<th>{name}</th><th>±</th><th></th>" for name in ("Ada", "“night”", "file"))
         self.assertIn(f"<th>difference from shared</th>{later}", html)
         self.assertEqual(html.count('class="field"'), 4)

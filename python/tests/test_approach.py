@@ -223,7 +223,9 @@ class Commands(unittest.TestCase):
     def test_freeway_and_delay(self) -> None:
         """The tables have the km and the times of the road without an approach. The main demand enters before km 0. `delay` reads the place of km 0 and
         the step of minute 0, and shows hours before km 0 and from there on."""
-        for name, more in (("plain", {}), ("long", {"approach": 1.5}), ("late", {"approach": 1.5, "begin": None, "stalled": [[1.2, 2, 6]]}),
+        drivers = {"slowing": 0.2, "start": 0.4, "factor": 1.0, "delay": 5.0}
+        calibration = {"delay": 5.0, "less": drivers, "more": drivers}
+        for name, more in (("plain", {}), ("long", {"approach": 1.5, "calibration": calibration}), ("late", {"approach": 1.5, "begin": None, "stalled": [[1.2, 2, 6]]}),
                            ("wide", {"length": 3, "approach": 2.4})):
             run_command(freeway.main, self.write_road(name, **more), "--out", self.folder / name)
         for table, columns in (("counts.csv", 2), ("stretch.csv", 1)):
@@ -232,11 +234,12 @@ class Commands(unittest.TestCase):
         self.assertEqual(after, [before[0], ["-1.5", *before[1][1:]], before[2]])
         self.assertEqual([line[1] for line in self.read_table("late", "counts.csv")][1:3], ["0", "1"])
         self.assertEqual(self.read_table("late", "counts.csv")[5][2:], self.read_table("long", "counts.csv")[5][2:])
-        self.assertEqual(json.loads((self.folder / "long" / "units.json").read_text()), {"metres": 7.5, "seconds": 1, "origin": 200, "begin": 240})
+        self.assertEqual(json.loads((self.folder / "long" / "units.json").read_text()), {"metres": 7.5, "seconds": 1, "origin": 200, "begin": 240,
+                                                                                             "clock": "07:00"})
         scripts = [self.folder / "long" / name for name in ("without.jsonl", "script.jsonl")]
         printed = list(csv.reader(run_command(delay.main, "--days", 2, "--out", self.folder, *scripts).splitlines()))
         rows = {row[0]: row for row in printed if row}
-        self.assertEqual([*rows][1:4], ["vehicle hours from km 0 on", "vehicle hours before km 0", "vehicle hours on the road and before it"])
+        self.assertEqual([*rows][2:5], ["vehicle hours from km 0 on", "vehicle hours before km 0", "vehicle hours on the road and before it"])
         self.assertIn("cars at km 1.05", rows)
         script, cells = read_script(str(scripts[0])), list[int]()
         zones = [read_script(str(self.folder / name / "script.jsonl")).plan["zone"] for name in ("long", "wide")]
@@ -249,8 +252,8 @@ class Commands(unittest.TestCase):
         hours = [float(rows[title][1]) for title in ("vehicle hours from km 0 on", "vehicle hours before km 0")]
         self.assertEqual(hours, [round(sum(is_on_road is (cell >= 200) for cell in cells) / 2 / 3_600, 3) for is_on_road in (True, False)])
         run_command(delay.main, "--out", self.folder, *scripts)
-        self.assertEqual([line[0] for line in self.read_table("delay.csv")][1:6], ["-4", "-3", "-2", "-1", "0"])
-        self.assertEqual([line[1] for line in self.read_table("inlets.csv")], ["at km", "-1.5", "0.75"])
+        self.assertEqual([line[0] for line in self.read_table("delay.csv")][:7], ["# per lane", "time of entry", "06:56", "06:57", "06:58", "06:59", "07:00"])
+        self.assertEqual([line[1] for line in self.read_table("inlets.csv")[1:]], ["at km", "-1.5", "0.75"])
 
     def test_live(self) -> None:
         """Live gets the cell at km 0 and the step at minute 0. Shapes are behind the approach and after the lead, and the main demand changes

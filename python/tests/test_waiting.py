@@ -141,7 +141,7 @@ class Waiting(unittest.TestCase):
         rows = {row.figure.title: row for row in make_table(sides, days, window)}
         self.assertEqual({title for title, row in rows.items() if row.bound == "at least" and "on the road after" in row.words},
                          {"delay, vehicle hours", "vehicle hours waiting before km 0", "longest queue before km 0, cars",
-                          "end of the queue before km 0, after the begin, min", "vehicle hours on the road and before it"})
+                          "end of the queue before km 0, min after the begin", "vehicle hours on the road", "vehicle hours on the road and before it"})
         difference = rows["vehicle hours on the road and before it"].difference.mean
         self.assertAlmostEqual(rows["delay, vehicle hours"].difference.mean or 0, difference or -1, 9)
         swapped = make_table(sides[::-1], [day[::-1] for day in days], window)

@@ -114,6 +114,11 @@ def gates(path, days=0, counted=None, has_queue=True):
     return plan, come, gone, to, spent, queues, entered, on_road
 
 
+def head(*words):
+    print("# per lane")
+    comma(*words)
+
+
 def comma(*words):
     print(*(f'"{word}"' if "," in str(word) else word for word in words), sep=",")
 
@@ -152,7 +157,7 @@ def wait_figures(plan, before, after, hours_before, hours_after):
         queues = before.get(inlet, []), after.get(inlet, [])
         found[f"vehicle hours waiting before km {km(cell)}"] = tuple(sum(queue) / 3600 for queue in queues)
         found[f"longest queue before km {km(cell)}, cars"] = tuple(max(queue, default=0) for queue in queues)
-        found[f"end of the queue before km {km(cell)}, after the begin, min"] = tuple(end_of(queue) for queue in queues)
+        found[f"end of the queue before km {km(cell)}, min after the begin"] = tuple(end_of(queue) for queue in queues)
     hours = "vehicle hours on the road and before it"
     found[hours] = tuple(total + sum(sum(queue) for queue in queues.values()) / 3600
                          for total, queues in ((hours_before, before), (hours_after, after)))
@@ -183,7 +188,7 @@ def day(paths, number):
 
 def over_days(paths, number):
     days = [day(paths, one) for one in range(number)]
-    comma("mean of a day", "before", "±", "after", "±", "difference", "±", "unpaired ±", "days of opposite sign")
+    head("mean of a day", "before", "±", "after", "±", "difference", "±", "unpaired ±", "days of opposite sign")
     waited = any(any(found["vehicle hours on the road and before it"][which] != found["vehicle hours on the road"][which] for which in (0, 1))
                  for found in days)
     for name in days[0]:
@@ -198,6 +203,17 @@ def over_days(paths, number):
               f"{STUDENT[2 * number - 2] * pooled:.3f}" if known else "", 0 if not known else
               number - positive - more.count(0) if statistics.mean(more) > 0 else positive if statistics.mean(more) < 0 else 0)
     print()
+
+
+def run_ends_too_early(before, after, both):
+    """Return a sentence if of the cars of both roads more are still on one road than on the other, by more than twice the square root of the
+    cars that are on the emptier one. `before` and `after` have the cars that are on each road at the end."""
+    more = len(after & both) - len(before & both)
+    if abs(more) <= 2 * math.sqrt(min(len(before), len(after))):
+        return ""
+    there, here = ("before", "after") if more > 0 else ("after", "before")
+    return (f"The run ends too early: at its end the road {here} has {abs(more)} more car{'s' * (abs(more) > 1)} than the road {there}. The figures of delay "
+            "do not include what these cars lose later: let the run end later.")
 
 
 def main():
@@ -216,7 +232,7 @@ def main():
     queues, queues_after = ({inlet: one.get(inlet, []) for inlet in range(len(plan.inlets))} for one in (queues, queues_after))
     waiting = [inlet for inlet in queues if any(queues[inlet]) or any(queues_after[inlet])]
 
-    comma("minute of entry", "cars", "before s", "after s", "mean delay s", "greatest s", "veh·h", "only before", "only after")
+    head("minute of entry", "cars", "before s", "after s", "mean delay s", "greatest s", "veh·h", "only before", "only after")
     for minute in sorted({car // 16 // MINUTE for car in all_cars}):
         cars = [car for car in all_cars if car // 16 // MINUTE == minute]
         through = [car for car in cars if car in ended]
@@ -227,24 +243,24 @@ def main():
               sum(car not in other for car in cars), sum(car not in come for car in cars))
     print()
 
-    comma("inlet", "at km", "entered before", "entered after", "only before", "only after")
+    head("inlet", "at km", "entered before", "entered after", "only before", "only after")
     for inlet, (cell, _) in enumerate(plan.inlets):
         first, second = [{car for car in cars if car % 16 == inlet} for cars in (come, other)]
         comma(inlet, km(cell), len(first), len(second), len(first - second), len(second - first))
     print()
 
     if waiting:
-        comma("inlet", "at km", *(word for side in ("before", "after") for word in (f"waiting {side} veh·h", "longest queue cars", "until minute")))
+        head("inlet", "at km", *(word for side in ("before", "after") for word in (f"waiting {side} veh·h", "longest queue cars", "until minute")))
         for inlet in waiting:
             numbers = [(sum(queue), max(queue, default=0), end_of(queue)) for queue in (queues[inlet], queues_after[inlet])]
             comma(inlet, km(plan.inlets[inlet][0]), *(word for total, longest, end in numbers
                                                     for word in (hours(total), longest, "" if end is None else f"{end:.1f}")))
         print()
 
-    comma("cars", "number", "mean delay s", "greatest s", "veh·h")
+    head("cars", "number", "mean delay s", "greatest s", "veh·h")
     sums = sum(late.values())
     later = {car for car in ended if late[car] > 0}
-    for name, cars in (("through in both runs", ended), ("of these, delayed", later), ("still on the road", late.keys() - ended)):
+    for name, cars in (("through in both runs", ended), ("of these delayed", later), ("still on the road", late.keys() - ended)):
         total = sum(late[car] for car in cars)
         comma(name, len(cars), mean(total, len(cars)), greatest([late[car] for car in cars]), hours(total))
     lost, gained = sum(took[car] for car in took.keys() - late), sum(takes[car] for car in takes.keys() - late)
@@ -260,9 +276,9 @@ def main():
     if fewer:
         print(f"{abs(fewer)} {'fewer' if fewer > 0 else 'more'} cars entered in the second run. The delay does not include them; "
               "--demand shows whether demand was lost.")
-    inside = sum(late[car] for car in late.keys() - ended)
-    if inside:
-        print(f"The run ends too early: the cars still on the road are {hours(inside)} veh·h late, and their delay may still grow.")
+    early = run_ends_too_early(set(come) - set(gone), set(other) - set(left), set(come) & set(other))
+    if early and not any(queue[-1] for one in (queues, queues_after) for queue in one.values() if queue):
+        print(early)
 
 
 if __name__ == "__main__":

@@ -8,6 +8,7 @@ from typing import Mapping, Sequence, TypeVar, Union
 
 from zegdrut import Edit
 from zegdrut.figures.lost import find_entry
+from zegdrut.figures.table import PER_LANE
 from zegdrut.figures.trips import Window
 from zegdrut.program.grammar import LAST_HORIZON
 from zegdrut.program.rows import count_cars
@@ -417,7 +418,7 @@ class Questions:
         """Return a table of what detectors count, as CSV, for each span of `each` steps."""
         spans = await self._count_spans(road, times, first, last, each)
         say_time = files.time_writer(clock_of(self._keeper.folder), self._units.begin)
-        title = f"counts of {self._road_name(road.name)}{self._file_and_date()}, {say_time(first)} to {say_time(last)}"
+        title = f"counts of {self._road_name(road.name)}{self._file_and_date()}, {say_time(first)} to {say_time(last)}, {PER_LANE}"
         windows = [Window(start, min(last, start + each)) for start in range(first, last, each)]
         return {"csv": files.table_of_counts(self._keeper.state.plan, self._units, title, say_time, windows, spans)}
 

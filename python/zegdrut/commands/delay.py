@@ -12,7 +12,7 @@
     --out FOLDER   the folder of the tables (default: out/)
 
 If the folder of BEFORE has a file units.json, such as recipes/freeway writes, its "metres" and "seconds" are the defaults, "origin" is
-the cell at km 0, and "begin" the step at minute 0. Its "notes" are printed.
+the cell at km 0, and "begin" the step at minute 0. If it has a "clock", the tables of a day have clock times.
 
 Cars that cannot enter wait before their inlet, and their waiting is part of the delay (`zegdrut.roads.waiting` has the rule). If cars wait,
 a car's entry is its arrival at the inlet, and the tables have rows for the queues.
@@ -38,33 +38,38 @@ from ..figures.days import ROADS, Days, run_over_days
 from ..figures.delay import Delay, Entered, Group, compare_delays, to_vehicle_hours
 from ..figures.intervals import warn_few_days
 from ..figures.lost import compute_demands, compute_supplies
-from ..figures.queues import (EditedRoad, Waits, average_lost, explain_growing, explain_lost, explain_outflow, find_bound, find_growing,
-                              find_inlets, read_roads, run_day)
+from ..figures.queues import (EditedRoad, Waits, average_lost, compare_ends, explain_end, explain_lost, explain_outflow, find_bound,
+                              find_growing, find_inlets, read_roads, run_day)
 from ..figures.simulation import RoadRun
-from ..figures.table import Figure, FigureRow, choose, list_figures, sort_inlets
+from ..figures.table import PER_LANE, Figure, FigureRow, choose, list_figures, sort_inlets
 from ..figures.trips import Window, count_admitted_cars
 from ..program.errors import Fault, LabError, describe_error
 from ..program.scripts import read_script, check_same_road
 from ..reports.outputs import format_csv, prepare_folder
+from ..roads.clock import Clock, InvalidTime
 from ..roads.demand import Supply
-from ..roads.freeway_files import NOT_IN_INTERVAL
 from ..roads.units import Units, count_things, format_fixed
 
 PICTURE = Path(__file__).with_name("differences.gnuplot")
 
 # The tables
 
-def format_delays(cost: Delay, seconds: float, minutes: float) -> list[str]:
+def format_delays(cost: Delay, seconds: float, minutes: float, clock: Clock | None) -> list[str]:
     """Return the table of delays by period of entry."""
-    lines = ["minute of entry,cars,before s,after s,mean delay s,greatest s,veh·h,only before,only after"]
+    lines = [f"{'minute' if clock is None else 'time'} of entry,cars,before s,after s,mean delay s,greatest s,veh·h,only before,only after"]
     for number, minute in cost.periods.items():
         through = minute.through
         times = [format_mean_seconds(through.before, through, seconds), format_mean_seconds(through.after, through, seconds),
                  format_mean_seconds(through.delay, through, seconds),
                  "" if through.greatest is None else f"{through.greatest * seconds:.0f}"]
-        lines.append(",".join([f"{number * minutes:g}", str(through.cars), *times,
+        lines.append(",".join([format_minute(number * minutes, clock, f"{number * minutes:g}"), str(through.cars), *times,
                                format_hours(through.delay, seconds), str(minute.lost), str(minute.gained)]))
     return lines
+
+
+def format_minute(minute: float | None, clock: Clock | None, plain: str) -> str:
+    """Return a minute as a clock time; as `plain` if no clock, or no minute, is known."""
+    return plain if clock is None or minute is None else clock.to_text(round(minute * 60))
 
 
 def format_mean_seconds(steps: int, group: Group, seconds: float) -> str:
@@ -95,15 +100,16 @@ def format_demands(inlets: Sequence[Sequence[int]], before: list[Supply], after:
     return lines
 
 
-def format_waiting(figures: Sequence[Figure], runs: Sequence[RoadRun], inlets: frozenset[int], units: Units) -> list[str]:
+def format_waiting(figures: Sequence[Figure], runs: Sequence[RoadRun], inlets: frozenset[int], units: Units, clock: Clock | None) -> list[str]:
     """Return the table of the queues before the inlets where cars wait on one of the runs."""
-    lines = [f"inlet,{units.place_title()},waiting before veh·h,longest queue cars,until minute,waiting after veh·h,longest queue cars,until minute"]
+    until = "until minute" if clock is None else "until"
+    lines = [f"inlet,{units.place_title()},waiting before veh·h,longest queue cars,{until},waiting after veh·h,longest queue cars,{until}"]
     plan = runs[0].trips.plan
     for inlet in sort_inlets(plan):
         if inlet in inlets:
             of_inlet = choose(figures, "wait", "wait queue", "wait end", inlet=inlet)
-            numbers = [format_fixed(figure.measure(None, run).after, 3 if figure.key == "wait" else 1 if figure.key == "wait end" else 0)
-                       for run in runs for figure in of_inlet]
+            numbers = [format_minute(value, clock, format_fixed(value, 1)) if figure.key == "wait end" else format_fixed(value, 3 if figure.key == "wait" else 0)
+                       for run in runs for figure in of_inlet for value in [figure.measure(None, run).after]]
             lines.append(",".join([str(inlet), units.place_value(plan["inlets"][inlet][0]), *numbers]))
     return lines
 
@@ -117,7 +123,7 @@ def list_waiting_sums(figures: Sequence[Figure], runs: Sequence[RoadRun], inlets
 def format_sums(cost: Delay, seconds: float, waiting: Sequence[str] = (), bound: str = "") -> list[str]:
     """Return the table of sums in vehicle hours. `waiting` has the rows of queues. `bound` says how the delay relates to the true one."""
     lines = ["cars,number,mean delay s,greatest s,veh·h"]
-    for name, group in {"through in both runs": cost.through, "of these, delayed": cost.delayed,
+    for name, group in {"through in both runs": cost.through, "of these delayed": cost.delayed,
                         "still on the road": cost.inside}.items():
         greatest = "" if group.greatest is None else f"{group.greatest * seconds:.0f}"
         lines.append(f"{name},{group.cars},{format_mean_seconds(group.delay, group, seconds)},{greatest},{format_hours(group.delay, seconds)}")
@@ -132,28 +138,30 @@ def format_hours(steps: int, seconds: float) -> str:
     return f"{to_vehicle_hours(steps, seconds):.3f}"
 
 
+def with_title(lines: list[str]) -> list[str]:
+    """Return a table below its title."""
+    return [f"# {PER_LANE}", *lines]
+
+
 def write_table(folder: Path, name: str, lines: list[str]) -> None:
-    """Write a table into the folder."""
-    (folder / name).write_text("".join(line + "\n" for line in lines), encoding="utf-8")
+    """Write a table into the folder. Its first row says that it is per lane."""
+    (folder / name).write_text("".join(line + "\n" for line in with_title(lines)), encoding="utf-8")
 
 
 def write_and_print(folder: Path, name: str, lines: list[str]) -> None:
     """Write a table into the folder, and print it."""
     write_table(folder, name, lines)
-    print("\n".join(lines), end="\n\n")
+    print("\n".join(with_title(lines)), end="\n\n")
 
 
-def print_notes(cost: Delay, seconds: float, notes: Sequence[str]) -> None:
-    """Print what the tables do not show: notes, cars of one run only, and a run that ends too early."""
+def print_notes(cost: Delay, notes: Sequence[str]) -> None:
+    """Print what the tables do not show: notes, and cars of one run only."""
     print("".join(f"{note}\n" for note in notes), end="")
     lost = sum(inlet.lost - inlet.gained for inlet in cost.inlets.values())
     if lost:
         more = "fewer" if lost > 0 else "more"
         print(f"{count_things(abs(lost), f'{more} car')} entered in the second run. The delay does not include them; --demand shows whether "
               "demand was lost.")
-    if cost.inside.delay:
-        print(f"The run ends too early: the cars still on the road are {format_hours(cost.inside.delay, seconds)} veh·h "
-              "late, and their delay may still grow.")
 
 
 # Many days
@@ -196,7 +204,7 @@ def compare_over_days(given: argparse.Namespace) -> None:
     print("".join(f"{one}\n" for one in warn_few_days(given.days)), end="", file=sys.stderr, flush=True)
     write_and_print(given.out, "days.csv", format_rows(rows))
     write_table(given.out, "by_day.csv", format_days(days))
-    print("".join(f"{note}\n" for note in [*days.notes, *(f"{one}{NOT_IN_INTERVAL}" for one in read_notes(given))]), end="")
+    print("".join(f"{note}\n" for note in days.notes), end="")
     # All hours include those of cars that wait.
     draw_differences(given.out, days, next((row for row in rows if row.figure.key == "all hours"), rows[0]))
 
@@ -221,10 +229,14 @@ def find_units(given: argparse.Namespace) -> Path:
     return Path(given.scripts[0]).with_name("units.json")
 
 
-def read_notes(given: argparse.Namespace) -> list[str]:
-    """Return the notes of units.json, whose form `read_units` has checked: how sure the drivers of a calibrated road are."""
+def read_clock(given: argparse.Namespace) -> Clock | None:
+    """Return the clock of minute 0 that units.json has, whose form `read_units` has checked; None if there is none."""
     path = find_units(given)
-    return list(map(str, json.loads(path.read_text(encoding="utf-8")).get("notes", []))) if path.exists() else []
+    found = json.loads(path.read_text(encoding="utf-8")) if path.exists() else {}
+    try:
+        return Clock.read(*(found.get(name) for name in ("clock", "date", "timezone"))) if "clock" in found else None
+    except InvalidTime as fault:
+        raise Fault(f"{path}, whose clock is the begin of a freeway: {fault}") from None
 
 
 def read_arguments(words: Sequence[str] | None, example: Sequence[str], out: Path) -> argparse.Namespace:
@@ -248,7 +260,7 @@ def read_arguments(words: Sequence[str] | None, example: Sequence[str], out: Pat
 
 def compare(given: argparse.Namespace) -> None:
     """Compare both scripts on one day."""
-    units = read_units(given)
+    units, clock = read_units(given), read_clock(given)
     seconds = units.seconds or 1.0
     if not seconds / 2 < given.minutes * 60 < float("inf"):
         raise Fault(f"--minutes {given.minutes:g} must be at least one step ({seconds:g} s)")
@@ -262,17 +274,18 @@ def compare(given: argparse.Namespace) -> None:
     cost = compare_delays(runs[0].by_arrival, runs[1].by_arrival, max(round(given.minutes * 60 / seconds), 1), units.begin)
     waits = [list(map(Waits.of, runs))]
     grow, inlets, figures, lost = find_growing(waits), find_inlets(waits), list_figures(plan, units), [average_lost([run], units) for run in runs]
-    bound = find_bound([grows or any(cars.values()) for grows, cars in zip(grow, lost)])
+    ends = compare_ends(*runs)
+    bound = find_bound([grows or any(cars.values()) or is_late for grows, cars, is_late in zip(grow, lost, ends.is_late)])
     supplies = [compute_supplies_of_run(road, run) for road, run in zip(roads, runs)] if given.demand else []
-    write_and_print(given.out, "delay.csv", format_delays(cost, seconds, given.minutes))
+    write_and_print(given.out, "delay.csv", format_delays(cost, seconds, given.minutes, clock))
     write_and_print(given.out, "inlets.csv", format_inlets(cost, plan["inlets"], units))
     if inlets:
-        write_and_print(given.out, "waiting.csv", format_waiting(figures, runs, inlets, units))
+        write_and_print(given.out, "waiting.csv", format_waiting(figures, runs, inlets, units, clock))
     write_and_print(given.out, "sums.csv", format_sums(cost, seconds, list_waiting_sums(figures, runs, inlets), bound))
     if given.demand:
         write_and_print(given.out, "demand.csv", format_demands(plan["inlets"], supplies[0], supplies[1], units))
-    print_notes(cost, seconds, [note for note in (
-        explain_growing(ROADS, grow), *explain_outflow(roads[0].drivers, waits), explain_lost(ROADS, lost), *read_notes(given)) if note])
+    print_notes(cost, [note for note in (
+        explain_end(ROADS, waits, ends), *explain_outflow(roads[0].drivers, waits), explain_lost(ROADS, lost)) if note])
 
 
 def main(words: Sequence[str] | None = None, example: Sequence[str] = (), out: Path = Path("out")) -> int:

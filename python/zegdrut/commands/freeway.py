@@ -12,8 +12,8 @@ them into the folder, by default out/ or, for a file NAME.json, out/NAME:
     stretch.csv    flow, density and speed on a stretch of the road, period by period
 
 The folder also has the script (script.jsonl), its replies, and units.json with the lengths of a cell and a step. If the road has an
-approach, units.json also has the cell at km 0 ("origin") and the step at minute 0 ("begin"). If the road was calibrated, it has a note on how
-sure its drivers are, which `zegdrut delay` prints. If the road has sections or stalled cars, without.jsonl is the same road and seed without them.
+approach, units.json also has the cell at km 0 ("origin") and the step at minute 0 ("begin"). If the file has a `begin`, units.json
+has the clock time of minute 0. If the road has sections or stalled cars, without.jsonl is the same road and seed without them.
 
 FILE2 of --then has the sections and stalled cars as they turned out. The command then changes the past of the run by edits
 (then.jsonl) and lists them. The tables of the changed run are then_demand.csv and so on.
@@ -43,7 +43,6 @@ from ..reports.outputs import prepare_folder
 from ..roads.demand import Inlet, Supply, count_admitted, count_demand, find_rate
 from ..roads.freeway import (Fault, Figures, Road, Section, find_changes, describe_changes, list_free_cells, make_road, make_shapes, measure_chances,
                              postpone, widen_inlet, widen_inlets, with_lead)
-from ..roads.freeway_files import describe_calibration
 from ..roads.inflow import run_script
 from ..roads.road_scripts import Chances, make_commands, make_plan, make_script
 from ..roads.units import CELLS_A_KM, HOUR, KMH, METRES, format_distance, to_steps
@@ -267,7 +266,8 @@ def run_freeway(figures: Figures, folder: Path, then: Figures | None = None) -> 
     demand = format_demands(road, inlets, start)
     print_lines(road.notes[before:], end="\n")
     units: dict[str, object] = {"metres": METRES, "seconds": 1, **({"origin": road.approach, "begin": road.lead} if road.approach else {}),
-             **({"notes": notes} if (notes := describe_calibration(figures.calibration, days=1)) else {})}
+             **({name: value for name, value in (("clock", figures.begin), ("date", figures.date), ("timezone", figures.timezone)) if value}
+                if figures.begin else {})}
     write_lines(folder, "units.json", [json.dumps(units)])
     script = with_commands(start, list_queries(road))
     write_tables(folder, "", make_tables(figures, road, demand, run_and_write(folder, "script.jsonl", "replies.jsonl", script)))

@@ -270,6 +270,10 @@ class Congestion:
 
     def describe(self) -> list[str]:
         """Return what congestion means here, what the delay and the travel times are, and a verdict on each jam."""
+        return [*self.explain(), *self.judge_jams()]
+
+    def explain(self) -> list[str]:
+        """Return what congestion means here, and what the delay and the travel times are."""
         said = [f"congested: below {self._share:g} of the free speed of the station, {describe_means(self._measured.mean)}"]
         if self._segments:
             first, last = (self._segments[place].series.station for place in (0, -1))
@@ -279,7 +283,11 @@ class Congestion:
         if interval < LONG_INTERVAL:
             said.append(f"in counts of {count_things(interval // 60, 'minute')} one free interval ends a jam: for a verdict add them up to "
                         f"{LONG_INTERVAL // 60} minutes")
-        return [*said, *self._lost_cars, *describe_jams(self._found, self._measured), *describe_leaving(self._leaving)]
+        return [*said, *self._lost_cars]
+
+    def judge_jams(self) -> list[str]:
+        """Return a verdict on each jam, or why there is none, and compare the flows that leave jams."""
+        return [*describe_jams(self._found, self._measured), *describe_leaving(self._leaving)]
 
     def _describe_times(self) -> str:
         """Return what the travel times are, or why there are none."""

@@ -34,7 +34,7 @@ from ..figures.intervals import CHANCE, warn_few_days
 from ..figures.queues import (WAITING_KEYS, Waits, average_lost, explain_growing, explain_lost, explain_outflow, find_growing, find_inlets,
                               is_shown, with_bounds, with_lost)
 from ..figures.simulation import RoadRun, read_run, simulate_days
-from ..figures.table import Figure, FigureRow, choose, compare as compare_figures, list_figures, measure_day
+from ..figures.table import PER_LANE, Figure, FigureRow, choose, compare as compare_figures, list_figures, measure_day
 from ..figures.trips import Window
 from ..program.bars import Bar
 from ..program.errors import Fault, LabError, describe_error
@@ -321,7 +321,7 @@ def write_tables(folder: Path, site: Site, days: str, tables: dict[str, Table], 
     are given."""
     clock, steps = site.figures.clock, site.road.steps - site.road.lead
     for name, rows in tables.items():
-        write_csv(folder / f"{name}-{site.name}-{format_window(clock, steps)}.csv", f"{make_title(site.name, clock, steps)}, {days}", rows)
+        write_csv(folder / f"{name}-{site.name}-{format_window(clock, steps)}.csv", f"{make_title(site.name, clock, steps)}, {PER_LANE}, {days}", rows)
     if said is not None:
         print("\n".join([*format_csv(next(iter(tables.values()))), *said]))
 

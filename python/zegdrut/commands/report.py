@@ -23,7 +23,7 @@ from typing import Any, Sequence
 from ..figures.intervals import warn_few_days
 from ..figures.queues import Waits, explain_outflow
 from ..figures.simulation import RoadRun
-from ..figures.table import FigureRow
+from ..figures.table import PER_LANE, FigureRow
 from ..figures.trips import Window
 from ..measurements.comparison import Model, compare_hours, list_left_out, make_model
 from ..measurements.congestion import list_segments, simulate_segments
@@ -35,7 +35,9 @@ from ..reports.outputs import format_window, make_title as make_csv_title, prepa
 from ..reports.pictures import INLETS, Chart, Line
 from ..reports.report import (MOST_SIDES, PERIOD, RangeRow, Side, make_flow_series, make_range_records, make_ranges, make_records, make_speed_series,
                               make_tables, run_sides)
-from ..reports.report_page import Contents, describe_approach, draw_demands, format_page, make_list_html
+from ..reports.report_page import Contents, describe_approach, describe_capacities, draw_demands, format_page, make_list_html
+from ..roads.capacity import LIMIT as WORKS_LIMIT
+from ..roads.clock import Clock
 from ..roads.demand import BeyondCapacity, find_rate
 from ..roads.freeway import Figures, Road, make_all_roads, measure_chances, to_rates, warm_up_minutes, widen_inlets, with_warm_up
 from ..roads.freeway_files import Alternative, Demand, describe_calibration
@@ -146,8 +148,8 @@ def read_others(given: argparse.Namespace, figures: Figures) -> tuple[list[Figur
     for path, other in zip(given.against, others):
         for name in ("length", "minutes", "begin", "date", "seed", "detectors", "entry", "approach"):
             if getattr(figures, name) != getattr(other, name):
-                raise Fault(f"{path}: {name} is {getattr(other, name)}, but {getattr(figures, name)} in {given.road}: both "
-                            "files must describe the same road and time")
+                raise Fault(f"{path}: {name} is {getattr(other, name)}, but {getattr(figures, name)} in {given.road}: "
+                            + (advise_window([figures, other]) if name in ("minutes", "begin") else "both files must describe the same road and time"))
         if [km for km, _ in other.ramps] != [km for km, _ in figures.ramps]:
             raise Fault(f"{path}: its ramps are not those of {given.road}: both files must describe the same road and time")
     names = [path.stem for path in (*given.against, given.road)]
@@ -157,6 +159,14 @@ def read_others(given: argparse.Namespace, figures: Figures) -> tuple[list[Figur
         raise Fault(f"two of the files have the name {next(name for name in names if names.count(name) > 1)}: the report calls roads by the names "
                     "of their files, so rename one")
     return others, names
+
+
+def advise_window(both: Sequence[Figures]) -> str:
+    """Return what to do if two files have different windows."""
+    begins = [one.clock.begin for one in both]
+    minutes = max(begin / 60 + one.minutes for begin, one in zip(begins, both)) - min(begins) / 60
+    window = f', such as "begin": "{Clock(min(begins)).to_text(0)}" and "minutes": {minutes:g},' if all(one.begin for one in both) else ""
+    return f"give both files one window{window} that holds the works of both, and the demand of all that time"
 
 
 def find_first_file(given: argparse.Namespace) -> Path:
@@ -213,8 +223,9 @@ def describe_works(figures: Figures) -> list[str]:
     clock = figures.clock
     found = []
     for one in figures.sections:
+        limit = WORKS_LIMIT if one.limit is None and one.capacity is not None else one.limit
         what = [f"{one.capacity:,.0f} cars/h"] if one.capacity is not None else []
-        what += [f"limit {one.limit:g} km/h"] if one.limit is not None else []
+        what += [f"limit {limit:g} km/h" + ", which also delays free traffic" * (one.capacity is not None)] if limit is not None else []
         what += [f"slowing {one.slowing:.0%}"] if one.slowing is not None else []
         what += [f"slow-to-start {one.start:.0%}"] if one.start is not None else []
         found.append(f"km {one.first:g} to {one.last:g}, {clock.to_text(round(one.begin * 60))} to {clock.to_text(round(one.end * 60))}: "
@@ -296,9 +307,9 @@ def make_counts_html(given: argparse.Namespace, request: Request, model: Model) 
     notes = make_list_html(measured.notes) if measured.notes else ""
     whose = "the measured demand" if given.demand == "counts" else f"the demand of {find_first_file(given).name}"
     only = f" Only the road {request.names[0]} is compared with the counts." if request.others else ""
-    shares = "; ".join([*format_shares(measured, hours), *congestion.describe()]) + "."
+    shares = "; ".join([*format_shares(measured, hours), *congestion.explain()]) + "."
     return (f"<h2>Comparison with measured counts</h2><p>{escape(make_title(model))}, mean of {count_things(given.days, 'day')} with {escape(whose)}."
-            f"{escape(only)} {escape(shares)}</p>" + notes + make_lines_html(format_hours(model, hours))
+            f"{escape(only)}</p>{make_list_html(congestion.judge_jams())}<p>{escape(shares)}</p>" + notes + make_lines_html(format_hours(model, hours))
             + make_lines_html(format_speeds(model, days)) + make_lines_html(congestion.format_table())
             + f'<div class="pairs">{"".join(f"<div>{one.draw(470, 175)}</div>" for one in make_comparison_charts(model, days))}</div>')
 
@@ -318,7 +329,8 @@ def make_page(given: argparse.Namespace, request: Request, roads: Sequence[Road]
         demand=make_demand_chart(list_demands(request)), works=list_works(request),
         notes=road.notes, clock=clock, window=window, length=road.length, detectors=road.detectors, sides=sides, days=days,
         rows=tables[0], others=tables[1:], seed=figures.seed, closed=closed, more="" if model is None else make_counts_html(given, request, model),
-        remarks=[*OTHER_DAYS[:bool(request.warm)], *explain_outflow(road.drivers, [list(map(Waits.of, runs)) for runs in days])], ranges=ranges,
+        remarks=[*describe_capacities([one.capacity for side in (*request.others, figures) for one in side.sections if one.capacity is not None]),
+                 *OTHER_DAYS[:bool(request.warm)], *explain_outflow(road.drivers, [list(map(Waits.of, runs)) for runs in days])], ranges=ranges,
         sure=describe_sureness(request, given.days), has_approach=given.show_approach))
 
 
@@ -372,12 +384,12 @@ def write_report(given: argparse.Namespace, out: Path) -> None:
     days, *others = each
     tables, ranges = make_tables(sides, days, window), make_ranges(sides, each, window) if others else []
     path.write_text(make_page(given, request, roads, sides, days, tables, ranges, model), encoding="utf-8")
-    title = f"{make_csv_title(given.road.stem, clock, window.steps)}, mean of {count_things(given.days, 'day')}"
+    of_road = f"{make_csv_title(given.road.stem, clock, window.steps)}, {PER_LANE}"
+    title = f"{of_road}, mean of {count_things(given.days, 'day')}"
     write_table(path.with_name(f"figures-{given.road.stem}-{times}.csv"), title, make_records(sides, tables))
     if ranges:
         write_table(path.with_name(f"calibration-{given.road.stem}-{times}.csv"), title, make_range_records(sides, ranges))
-    write_table(path.with_name(f"demand-{given.road.stem}-{times}.csv"), make_csv_title(given.road.stem, clock, window.steps),
-                make_demand_records(list_demands(request)))
+    write_table(path.with_name(f"demand-{given.road.stem}-{times}.csv"), of_road, make_demand_records(list_demands(request)))
     series = make_series_records(request, sides, roads, days)
     if series:
         write_table(path.with_name(f"series-{given.road.stem}-{times}.csv"), title, series)

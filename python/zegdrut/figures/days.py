@@ -22,8 +22,8 @@ from ..program.scripts import Script, check_same_road
 from ..program.wire import PlanLine
 from ..roads.demand import Drivers
 from ..roads.units import Units
-from .queues import (EditedRoad, Waits, average_lost, explain_growing, explain_lost, explain_outflow, find_growing, find_inlets, is_shown,
-                     read_roads, run_day as run_with_queue, with_bounds, with_lost)
+from .queues import (EditedRoad, Ends, Waits, average_ends, average_lost, compare_ends, explain_end, explain_lost, explain_outflow, find_inlets,
+                     is_shown, read_roads, run_day as run_with_queue, with_bounds, with_lost)
 from .simulation import RoadRun, simulate_days
 from .table import Figure, FigureRow, Value, compare, list_known, list_shown, measure_day
 from .trips import Window
@@ -35,7 +35,7 @@ ROADS = ("before", "after")
 
 
 class Days(NamedTuple):
-    """The figures of both runs on each day, their queues, and the cars that they lose."""
+    """The figures of both runs on each day, their queues, the cars that they lose, and those at their end."""
 
     figures: list[Figure]
     seeds: list[int]
@@ -45,16 +45,17 @@ class Days(NamedTuple):
     """The drivers at the main inlet."""
     lost: Sequence[Mapping[str, float]]
     """For each run the mean number of cars that each inlet loses on a day, by its place."""
+    ends: Ends
 
     @property
     def notes(self) -> list[str]:
         """Return the sentences that the figures of queues need."""
-        return [note for note in (explain_growing(ROADS, find_growing(self.waits)), *explain_outflow(self.drivers, self.waits),
+        return [note for note in (explain_end(ROADS, self.waits, self.ends), *explain_outflow(self.drivers, self.waits),
                                   explain_lost(ROADS, self.lost)) if note]
 
     def rows(self) -> list[FigureRow]:
         """Return each figure over all days, with its 95 % intervals."""
-        return list_known(with_lost([with_bounds(compare(self.figures, self.values), ROADS, self.waits)], ROADS, self.lost))[0]
+        return list_known(with_lost([with_bounds(compare(self.figures, self.values), ROADS, self.waits, self.ends)], ROADS, self.lost))[0]
 
 
 def run_over_days(before: Script, after: Script, days: int, at: str | None = None, units: Units = Units(),
@@ -88,18 +89,20 @@ def run_over_days(before: Script, after: Script, days: int, at: str | None = Non
         found = simulate_days(functools.partial(make_day, plan, units, roads, has_queue), seeds, progress or bar.show, executor=executor, ship=ship)
     finally:
         bar.end()
-    waits, figures = [one for _, one, _ in found], list_shown("delay", plan, units)
+    waits, figures = [one for _, one, _, _ in found], list_shown("delay", plan, units)
     shown = [is_shown(figure, find_inlets(waits), units) for figure in figures]
-    lost = [{place: sum(day[place] for day in road) / days for place in road[0]} for road in zip(*(one for _, _, one in found))]
-    return Days(list(compress(figures, shown)), seeds, [list(compress(values, shown)) for values, _, _ in found], waits, roads[0].drivers, lost)
+    lost = [{place: sum(day[place] for day in road) / days for place in road[0]} for road in zip(*(one for _, _, one, _ in found))]
+    return Days(list(compress(figures, shown)), seeds, [list(compress(values, shown)) for values, *_ in found], waits, roads[0].drivers, lost,
+                average_ends([one for *_, one in found]))
 
 
 def make_day(plan: PlanLine, units: Units, roads: Sequence[EditedRoad], has_queue: bool, seed: int) -> tuple[
-        list[Value], list[Waits], list[Mapping[str, float]]]:
-    """Return the figures of a day of both roads, at the detectors of the plan, their queues, and the cars that they lose."""
+        list[Value], list[Waits], list[Mapping[str, float]], Ends]:
+    """Return the figures of a day of both roads, at the detectors of the plan, their queues, the cars that they lose, and those at their end."""
     def run_road(road: EditedRoad) -> RoadRun:
         detectors = [road.script.plan["detectors"].index(cell) for cell in plan["detectors"]]
         return run_with_queue(road.script.with_seed(seed), road.free.with_seed(seed), Window(units.begin, road.last), (), detectors,
                               with_passings=False, seconds=units.seconds or 1.0, waits=has_queue, origin=units.origin)
-    runs = list(map(run_road, roads))
-    return (measure_day(list_shown("delay", plan, units), *runs), list(map(Waits.of, runs)), [average_lost([run], units) for run in runs])
+    runs = before, after = [run_road(road) for road in roads]
+    return (measure_day(list_shown("delay", plan, units), *runs), list(map(Waits.of, runs)), [average_lost([run], units) for run in runs],
+            compare_ends(before, after))

@@ -18,7 +18,7 @@ from ..program.scripts import Script, choose_replica, open_edited
 from ..program.wire import Fields
 from ..roads.capacity import NEAR_OUTFLOW, measure_outflow
 from ..roads.demand import Drivers, Rates
-from ..roads.units import HOUR, Units
+from ..roads.units import HOUR, Units, count_things
 from ..roads.waiting import ask_edits, find_arrivals, find_main, let_wait, name_by_arrival
 from .lost import find_drivers
 from .simulation import RoadRun, read_run
@@ -123,12 +123,54 @@ def is_shown(figure: Figure, inlets: frozenset[int], units: Units = FREEWAY) -> 
     return bool(inlets or units.origin) if figure.key == "all hours" else figure.key not in WAITING_KEYS or figure.of.inlet in inlets
 
 
-def with_bounds(rows: Sequence[FigureRow], names: Sequence[str], days: Sequence[Sequence[Waits]]) -> list[FigureRow]:
-    """Return rows that say which figures are bounds, because cars of some roads still wait in the last row. `names` are those of the
-    roads."""
-    grow = find_growing(days)
-    return [dataclasses.replace(row, bound=find_bound(grow), words=explain_growing(names, grow)) if row.figure.key in GROWING_KEYS else row
-            for row in rows] if any(grow) else [*rows]
+class Ends(NamedTuple):
+    """The cars that are on two roads, or wait before them, at the end of their runs."""
+
+    before: float = 0
+    after: float = 0
+    more: float = 0
+    """Of the cars that entered both roads, how many more are still on the second one."""
+
+    @property
+    def is_late(self) -> list[bool]:
+        """Return for each road whether its run ends too early: whether it has more cars than the other one, beyond the chance of a day."""
+        chance = 2 * math.sqrt(min(self.before, self.after))
+        return [-self.more > chance, self.more > chance]
+
+
+def compare_ends(before: RoadRun, after: RoadRun) -> Ends:
+    """Compare the cars that are on two roads, or wait before them, at the end of a day."""
+    one, other = ({number for number, left in run.by_arrival.left.items() if left is None} for run in (before, after))
+    known = before.by_arrival.left.keys() & after.by_arrival.left.keys()
+    return Ends(len(one), len(other), len(other & known) - len(one & known))
+
+
+def average_ends(days: Sequence[Ends]) -> Ends:
+    """Return the means over some days."""
+    return Ends(*(math.fsum(values) / len(days) for values in zip(*days)))
+
+
+def explain_end(names: Sequence[str], days: Sequence[Sequence[Waits]], ends: Ends) -> str:
+    """Return a sentence that says on which road the run ends too early: cars still wait in its last row, or they are late there. An empty string if
+    on none."""
+    words = explain_growing(names, find_growing(days))
+    if words or not any(ends.is_late):
+        return words
+    there, here = names if ends.more > 0 else reversed(names)
+    return (f"The run ends too early: at its end the road {here} has {count_things(round(abs(ends.more)), 'more car')} than the road {there}. The figures of "
+            "delay do not include what these cars lose later: let the run end later.")
+
+
+def with_bounds(rows: Sequence[FigureRow], names: Sequence[str], days: Sequence[Sequence[Waits]], ends: Ends = Ends()) -> list[FigureRow]:
+    """Return rows that say which figures are bounds, because cars of some roads still wait in the last row, or are late there. `names` are those of
+    the roads, and `ends` are the means over the days of two roads."""
+    grow, words = find_growing(days), explain_end(names, days, ends)
+
+    def with_bound(row: FigureRow) -> FigureRow:
+        key = row.figure.key
+        early = [key in GROWING_KEYS and grows or key in HOURS_KEYS and is_late for grows, is_late in zip(grow, ends.is_late)]
+        return dataclasses.replace(row, bound=find_bound(early), words=words if any(early) else "")
+    return [with_bound(row) for row in rows]
 
 
 def find_growing(days: Sequence[Sequence[Waits]]) -> list[bool]:
@@ -148,8 +190,8 @@ def explain_growing(names: Sequence[str], grow: Sequence[bool]) -> str:
     return f"Cars still wait at the end {where}: the figures of delay and waiting do not include what these cars lose later." if where else ""
 
 
-LOSING_KEYS = ("delay", "hours", "approach hours", "together", "all hours")
-"""The figures that leave out what lost cars would lose."""
+HOURS_KEYS = ("delay", "hours", "approach hours", "together", "all hours")
+"""The figures that leave out what lost cars, and late cars after the end, would lose."""
 SUPPLY_KEYS = ("demand", "demand at", "admitted", "admitted at")
 """The figures from which the lost cars follow."""
 
@@ -166,7 +208,7 @@ def with_lost(tables: Sequence[Sequence[FigureRow]], names: Sequence[str], lost:
         return [list(rows) for rows in tables]
     pairs = pair_roads([any(of_road.values()) for of_road in lost])
     return [[dataclasses.replace(row, bound=find_lost_bound(row, lose, lose_equally(rows)) or row.bound, words=f"{row.words} {words}".strip())
-             if row.figure.key in LOSING_KEYS else row for row in rows] for rows, lose in zip(tables, pairs)]
+             if row.figure.key in HOURS_KEYS else row for row in rows] for rows, lose in zip(tables, pairs)]
 
 
 def lose_equally(rows: Sequence[FigureRow]) -> bool:

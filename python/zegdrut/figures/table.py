@@ -26,6 +26,8 @@ from .trips import compute_delay, compute_delay_at, compute_travel_time, count_a
 R = TypeVar("R")
 FREEWAY = Units(METRES, 1.0)
 """The usual units: a cell is 7.5 m, and a step 1 s."""
+PER_LANE = "per lane"
+"""What the cars, flows and vehicle hours of the model are, which has one lane. The heading of each table and the first row of each CSV file say so."""
 
 
 class Of(NamedTuple):
@@ -220,7 +222,7 @@ def list_wait_figures(inlet: int, start: str) -> list[Figure]:
         return None if end is None else end * run.seconds / 60
     return [Figure("wait", f"vehicle hours waiting before {start}", "vehicle hours", 2, lambda run: run.hours(sum(run.list_waiting(inlet))), of=Of(inlet)),
             Figure("wait queue", f"longest queue before {start}", "cars", 0, lambda run: float(max(run.list_waiting(inlet), default=0)), of=Of(inlet)),
-            Figure("wait end", f"end of the queue before {start}, after the begin", "min", 0, find_end, of=Of(inlet))]
+            Figure("wait end", f"end of the queue before {start}", "min after the begin", 0, find_end, of=Of(inlet))]
 
 
 def list_queue_figures(inlet: int, ramp: str, others: Sequence[int]) -> list[Figure]:

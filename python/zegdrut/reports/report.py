@@ -12,7 +12,7 @@ from dataclasses import dataclass
 from typing import Callable, NamedTuple, Sequence
 
 from ..figures.intervals import average_known
-from ..figures.queues import Waits, average_lost, find_inlets, is_shown, run_day, with_bounds, with_lost
+from ..figures.queues import Ends, Waits, average_ends, average_lost, compare_ends, find_inlets, is_shown, run_day, with_bounds, with_lost
 from ..figures.simulation import RoadRun, simulate_days, split_window
 from ..figures.table import (FREEWAY, Bound, Figure, FigureRow, average_days, compare_roads, list_known, list_means, list_shown, measure_roads,
                              pair_roads)
@@ -121,8 +121,9 @@ def make_whole_tables(sides: Sequence[Side], days: Sequence[Sequence[RoadRun]], 
     figures = [figure for figure in list_shown("report", sides[0].script.plan, units) if is_shown(figure, inlets, units)
                and (figure.of_change is None or len(sides) > 1)]
     names = [side.name for side in sides]
-    tables = [with_bounds(rows, pair, growing) for rows, pair, *growing in zip(
-        compare_roads(figures, [measure_roads(figures, runs) for runs in days]), pair_roads(names), *(pair_roads(day) for day in waits))]
+    ends = [average_ends([compare_ends(*pair) for pair in pairs]) if len(sides) > 1 else Ends() for pairs in zip(*(pair_roads(runs) for runs in days))]
+    tables = [with_bounds(rows, pair, growing, end) for rows, pair, end, *growing in zip(
+        compare_roads(figures, [measure_roads(figures, runs) for runs in days]), pair_roads(names), ends, *(pair_roads(day) for day in waits))]
     return with_lost(tables, names, [average_lost(runs, units) for runs in zip(*days)])
 
 

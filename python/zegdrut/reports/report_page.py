@@ -12,7 +12,7 @@ from typing import Sequence
 
 from ..figures.intervals import CHANCE, FEW_DAYS, warn_few_days
 from ..figures.simulation import RoadRun
-from ..figures.table import FigureRow, list_means
+from ..figures.table import PER_LANE, Figure, FigureRow, list_means
 from ..figures.trips import Window
 from ..program.programs import program_path, read_record, sum_file
 from ..roads.clock import Clock
@@ -25,7 +25,7 @@ CELLS_A_PIECE, STEPS_A_PIECE = 7, 30
 NO_SPEED_BANDS = ('<p class="note">The charts of speeds have no intervals: on some days no car may pass in a period, and such a day has no '
                   'speed.</p>')
 NO_BANDS = f'<p class="note">With fewer than {FEW_DAYS} days the charts have no intervals.</p>'
-MISSING = ("more than one lane: there is no overtaking, and all figures are per lane", "off-ramps, junctions and trucks: all cars behave "
+MISSING = ("more than one lane: there is no overtaking", "off-ramps, junctions and trucks: all cars behave "
            "as their zone says", "a road before its inlets: demand that finds no place is lost, unless the table says that it waits",
            "speeds between whole cells per second, which are 27 km/h apart (a cell is 7.5 m)")
 STYLE = """
@@ -85,10 +85,10 @@ class Contents:
         return self.sides[0].units
 
 
-def make_table_html(sides: Sequence[Side], tables: Sequence[Sequence[FigureRow]], days: int, remarks: Sequence[str] = (),
+def make_table_html(sides: Sequence[Side], tables: Sequence[Sequence[FigureRow]], days: int, begin: Clock, remarks: Sequence[str] = (),
                     has_ranges: bool = False) -> str:
     """Return the tables of figures as HTML, with remarks below them: one table for two roads, or one of several roads and one of their
-    differences. has_ranges: the table of calibration follows."""
+    differences. begin: the clock at the beginning of the window. has_ranges: the table of calibration follows."""
     has_own_table = len(sides) > 2
     heads = [[side.name, "±"] for side in sides]
     differences = [[side.name if has_own_table else "difference", "±", ""] for side in sides[1:]]
@@ -98,45 +98,57 @@ def make_table_html(sides: Sequence[Side], tables: Sequence[Sequence[FigureRow]]
         if row.figure.key in ("lost", "lost at"):
             # By chance more cars may enter than the demand: none is lost then.
             means = [mean._replace(mean=max(mean.mean, 0.0)) if mean.mean is not None else mean for mean in means]
-        cells = [format_fixed(value, row.figure.digits, ",") for mean in means for value in mean]
+        cells = [cell for mean in means for cell in (format_mean(mean.mean, row.figure, begin), format_fixed(mean.half, row.figure.digits, ","))]
         more = [cell for rows in tables[:len(sides) - 1] for one in [rows[place]] for cell in (
             *(format_fixed(value, row.figure.digits, ",") for value in one.difference), mark_row(one, has_own_table))]
-        title = row.figure.title if has_own_table else mark_title(row)
         if has_own_table:
-            others.append([row.figure.title, *more])
+            others.append([title_figure(row.figure), *more])
         if not has_own_table or any(mean.mean is not None for mean in means):
-            lines.append([title, *cells, *([] if has_own_table else more)])
+            lines.append([title_figure(row.figure, "" if has_own_table else row.bound), *cells, *([] if has_own_table else more)])
     said = ("± is half the 95 % interval of the mean (Student's t), in the unit of its row; for the difference it is paired by day. "
             "All days have the same demand and kind of drivers, so ± does not include how demand differs from day to day, nor how well the drivers "
             f"are known{': the table of calibration shows that' * has_ranges}. "
             f"“{CHANCE}”: the interval of the difference contains 0; a figure that does not differ on any day has no remark. A speed is the mean of the days' time-mean speeds." if days > 1
             else "One day has no interval.")
     words = [escape_text(one) for one in [*sorted({row.words for rows in tables for row in rows if row.words}), *remarks]]
-    mean = f"mean of {days} days" if days > 1 else "one day"
-    head = [mean, *(cell for one in heads for cell in one), *([] if has_own_table else [cell for one in differences for cell in one])]
-    second = make_grid_html([f"difference from {sides[0].name}", *(cell for one in differences for cell in one)], others) if has_own_table else ""
+    head = [f"{describe_mean(days)}, {PER_LANE}", *(cell for one in heads for cell in one), *([] if has_own_table else [cell for one in differences for cell in one])]
+    second = make_grid_html([f"difference from {sides[0].name}, {PER_LANE}", *(cell for one in differences for cell in one)], others) if has_own_table else ""
     return f'{make_grid_html(head, lines)}{second}<p class="note">{" ".join([said, *words])}</p>'
 
 
-def make_ranges_html(sides: Sequence[Side], ranges: Sequence[RangeRow], days: int, sentences: Sequence[str]) -> str:
+def describe_mean(days: int) -> str:
+    """Return what the figures of some days are."""
+    return f"mean of {days} days" if days > 1 else "one day"
+
+
+def make_ranges_html(sides: Sequence[Side], ranges: Sequence[RangeRow], days: int, begin: Clock, sentences: Sequence[str]) -> str:
     """Return the table of how far figures move with drivers that fit as well, and sentences on these drivers, as HTML."""
-    head = ["calibration: from .. to", *(side.name for side in sides),
+    head = [f"calibration: from .. to, {PER_LANE}", *(side.name for side in sides),
             *(f"difference of {side.name}" if len(sides) > 2 else "difference" for side in sides[1:])]
-    lines = [[f"{row.figure.title} ({row.bound})" if row.bound else row.figure.title,
-              *(format_range(one, row.figure.digits) for one in (*row.roads, *row.differences))] for row in ranges]
+    lines = [[title_figure(row.figure, row.bound), *(format_range(one, row.figure, begin) for one in row.roads),
+              *(format_range(one, row.figure, None) for one in row.differences)] for row in ranges]
     said = [f"From the least to the greatest mean of {count_things(days, 'day')} with the drivers of the file and with two others that fit the counts as "
             "well within chance: those with the least and the most delay."] * bool(ranges) + [f"{one[0].upper()}{one[1:]}." for one in sentences]
     return (make_grid_html(head, lines) if ranges else "") + f'<p class="note">{" ".join(map(escape, said))}</p>' * bool(said)
 
 
-def format_range(found: Range, digits: int) -> str:
-    """Return a range for a table; an empty string if it is unknown."""
-    return "" if found.low is None else f"{format_fixed(found.low, digits, ',')} to {format_fixed(found.high, digits, ',')}"
+def format_mean(value: float | None, figure: Figure, begin: Clock | None) -> str:
+    """Return a value of a figure for a table: the end of a queue as a clock time, if the clock at the beginning of the window is given; an empty
+    string if it is unknown."""
+    if figure.key == "wait end" and begin is not None and value is not None:
+        return begin.to_text(60 * round(value))
+    return format_fixed(value, figure.digits, ",")
 
 
-def mark_title(row: FigureRow) -> str:
-    """Return the title of a row, with the remark that it is a bound."""
-    return f"{row.figure.title} ({row.bound})" if row.bound else row.figure.title
+def format_range(found: Range, figure: Figure, begin: Clock | None) -> str:
+    """Return a range of a figure for a table; an empty string if it is unknown."""
+    return "" if found.low is None else f"{format_mean(found.low, figure, begin)} to {format_mean(found.high, figure, begin)}"
+
+
+def title_figure(figure: Figure, bound: str = "") -> str:
+    """Return the title of a figure in a table with clock times, with the remark that it is a bound."""
+    title = f"{figure.label}, time; ± and difference in min" if figure.key == "wait end" else figure.title
+    return f"{title} ({bound})" if bound else title
 
 
 def mark_row(row: FigureRow, has_bound: bool) -> str:
@@ -197,7 +209,7 @@ def draw_demands(sides: Sequence[tuple[str, Sequence[tuple[str, Rates]]]], clock
     """Return the demand of each inlet of some roads in a window as a chart; an empty string if none changes there.
 
     `sides` has the name of each road, with the name and the demand of each of its inlets."""
-    chart, changes = Chart("Demand", "cars/h", clock, window.first, window.last), False
+    chart, changes = Chart(f"Demand {PER_LANE}", "cars/h", clock, window.first, window.last), False
     for place, (side, inlets) in enumerate(sides):
         for inlet, (name, rates) in enumerate(inlets):
             points: list[tuple[float, float | None]] = []
@@ -222,17 +234,25 @@ def format_page(contents: Contents) -> str:
         "<h2>Works</h2>" + make_list_html(contents.works or ["none"]),
         f'<p class="note">Rounded to the model: {escape_text("; ".join(contents.notes))}.</p>' if contents.notes else "",
         f"<h2>Space-time diagrams</h2>{make_fields_html(contents)}",
-        f"<h2>Flow and speed by time, each {PERIOD // 60} minutes, {f'mean of {days} days' if days > 1 else 'one day'}</h2>"
+        f"<h2>Flow {PER_LANE} and speed, each {PERIOD // 60} minutes, {describe_mean(days)}</h2>"
         + (NO_BANDS if 1 < days < FEW_DAYS else NO_SPEED_BANDS if days >= FEW_DAYS else "") + make_charts_html(contents)
         if contents.detectors else "",
-        f"<h2>Figures, {times}</h2>{make_table_html(contents.sides, [contents.rows, *contents.others], days, contents.remarks, bool(contents.ranges))}"
-        + make_ranges_html(contents.sides, contents.ranges, days, contents.sure),
+        f"<h2>Figures, {times}</h2>{make_table_html(contents.sides, [contents.rows, *contents.others], days, clock.shift(first), contents.remarks, bool(contents.ranges))}"
+        + make_ranges_html(contents.sides, contents.ranges, days, clock.shift(first), contents.sure),
         contents.more, "<h2>What the model does not have</h2>" + make_list_html(MISSING),
         f'<p class="note">Seeds {seeds}; program {escape(describe_program())}. Delay is the time that the cars of both roads spend on the road, '
         "and before it if the table says that they wait, in this window, after minus before; lost demand is demand minus admitted cars, and varies by chance by "
         "about twice the square root of the demand.</p>"]
     return (f'<!DOCTYPE html>\n<html lang="en"><head><meta charset="utf-8"><title>{escape(contents.title)}</title><style>{STYLE}</style></head>'
             f'<body>{"".join(parts)}</body></html>\n')
+
+
+def describe_capacities(capacities: Sequence[float]) -> list[str]:
+    """Return a sentence that says that no figure shows how sure the capacities of works are, in cars per hour."""
+    cars = " and ".join(f"{one:,.0f}" for one in sorted(set(capacities)))
+    plural = len(set(capacities)) > 1
+    return [f"No interval and no range shows how sure the {'capacities' if plural else 'capacity'} of {cars} cars/h {'are' if plural else 'is'}: try "
+            "others."] * bool(cars)
 
 
 def describe_approach(units: Units) -> list[str]:

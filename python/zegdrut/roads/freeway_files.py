@@ -139,8 +139,6 @@ class Figures:
         return found
 
 
-NOT_IN_INTERVAL = ": ± does not include this"
-"""The end of the sentence on a calibration, beside figures with ±."""
 NUMBERS = {"length": "a number of km", "limit": "a number of km/h", "slowing": "a chance from 0 to 1", "minutes": "a number of minutes",
            "piece": "a number of minutes", "seed": "a whole number, 0 or more", "zone": "a number of km, or null",
            "start": "a chance from 0 to 1, or null", "entry": "a number of km, or null",
@@ -357,7 +355,7 @@ def describe_calibration(calibration: Calibrated | None, days: int) -> list[str]
     """Return a sentence that says how sure the drivers of a calibrated road are, beside figures of some days: only those of several days have ±."""
     return [] if calibration is None else [
         f"calibration: {format_range(calibration)} vehicle hours of delay per lane on the calibrated day by drivers that fit its counts equally well "
-        f"within chance, and {calibration.delay:.1f} by those of the file{NOT_IN_INTERVAL * (days > 1)}"]
+        f"within chance, and {calibration.delay:.1f} by those of the file{': ± does not include this' * (days > 1)}"]
 
 
 def format_range(calibration: Calibrated) -> str:
