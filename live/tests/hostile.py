@@ -25,7 +25,6 @@ from running import PATIENCE, SMALL, Case, Server, end, started, transport_of, u
 from working import takes_at_most
 
 TURNS = 10  # at most, until no other program disturbs the measurement
-TRIES = 10  # of a tab to enter during a flood
 
 
 class Frames(Case):
@@ -339,7 +338,7 @@ class Crowds(Case):
 
     async def test_a_flood_from_its_own_address_keeps_no_tab_out_and_slows_no_gesture(self) -> None:
         """A gesture takes at most twice as long as during the same flood at another server. A slow machine gets a slower flood. A tab tries
-        several times, since it is cut if this process is too slow to send its request."""
+        three times, since it is cut if this process is too slow to send its request."""
         server, other = self.server(), self.server()
         async with server.seat("Ada") as ada:
             for kind in FLOODS:
@@ -356,7 +355,7 @@ class Crowds(Case):
                         await self.enter(server, f"{kind} {number}")
 
     async def enter(self, server: Server, name: str) -> None:
-        for tries_left in reversed(range(TRIES)):
+        for tries_left in (2, 1, 0):
             try:
                 async with server.seat(name) as seat:
                     self.assertEqual((await seat.reply("ping"))["pong"], {})
