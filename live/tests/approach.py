@@ -153,7 +153,7 @@ class Roads(Case):
         self.assertEqual(points[0], points[1])
 
     async def test_what_an_inlet_admits_beside_a_ramp_at_km_0(self) -> None:
-        """The main road, that ramp and the next one have curves, by which their chances give the demands of the file."""
+        """By the curves of the main road, that ramp and the next one, their chances give the demands of the file."""
         server = self.server(plan={**KM, "main": 900, "ramps": [[0, 200], [0.45, 150]], "sections": [], "stalled": []})
         async with server.seat() as ada:
             chances = [chance for _, chance in ada.welcome["plan"]["inlets"]]

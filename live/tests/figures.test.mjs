@@ -1,4 +1,4 @@
-// The figures of roads of which others may be chosen while answers are awaited.
+// The figures of compared roads, if other roads are chosen while answers are awaited.
 
 import assert from "node:assert/strict";
 import {test} from "node:test";

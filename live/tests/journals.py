@@ -493,7 +493,7 @@ class Folders(Case):
             async def is_told() -> bool:
                 told = [ada.welcome["trouble"], *(one["trouble"] for one in ada.received if "trouble" in one)]
                 return "Read-only file system" in str(told[-1])
-            await running.until(is_told, "the trouble is told")
+            await running.until(is_told, "the page shows the trouble")
             async with server.seat("Ben") as ben:  # somebody who joins now can look, too
                 self.assertEqual((await ben.ask("scenario"))["edits"], [])
                 said = await ben.reply("gesture", at=ben.at, key="x", shape=["limit", 2, 2, 50, None, 1])
