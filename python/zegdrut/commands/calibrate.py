@@ -380,7 +380,7 @@ def describe_alternatives(alternatives: Alternatives, found: Calibration, sure: 
     """Return a sentence on the delay, measured and simulated, and how far it moves over the points that fit as well."""
     later = sum(bool(one.round) for one in (*found.tried, *found.last))
     at_stations = "" if congestion.delay_at_stations is None else f" and {format_both(congestion.delay_at_stations)} simulated"
-    return (f"delay of congested traffic in vehicle hours per lane: by the cars that pass the stations {sure.delay.measured:.1f} measured{at_stations}, "
+    return (f"delay of congested traffic in vehicle hours per lane: estimated from station speeds {sure.delay.measured:.1f} measured{at_stations}, "
             f"by all cars between them {format_both(sure.delay)} simulated. Calibration: {sure.describe()} ({alternatives.points} of the {later} points after "
             f"the first round, with errors up to {alternatives.chance:.1f} above the smallest). ± does not include this")
 

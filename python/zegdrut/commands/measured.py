@@ -263,8 +263,8 @@ class Congestion:
                       ("longest travel time by trajectories", "s", times.longest, times.longest_at_stations)]
         for name, unit, both, alike in found:
             if both is not None and alike is not None:
-                rows += [[f"{name}, measured at stations", unit, format_number(both.measured), ""],
-                         [f"{name}, simulated at stations{bound}", unit, format_number(alike.simulated), format_number(alike.half)],
+                rows += [[f"{name}, estimated from measured station speeds", unit, format_number(both.measured), ""],
+                         [f"{name}, estimated from simulated station speeds{bound}", unit, format_number(alike.simulated), format_number(alike.half)],
                          [f"{name}, simulated by all cars{bound}", unit, format_number(both.simulated), format_number(both.half)]]
         return format_csv(rows)
 
@@ -278,7 +278,7 @@ class Congestion:
         if self._segments:
             first, last = (self._segments[place].series.station for place in (0, -1))
             said += [f"delay and travel times: from station {first.name} to {last.name}, km {first.km:g} to {last.km:g}. Station intervals and jams: at the "
-                     "stations after the first", self._describe_times()]
+                     "stations after the first", self._describe_estimates(), self._describe_times()]
         interval = self._measured.interval
         if interval < LONG_INTERVAL:
             said.append(f"in counts of {count_things(interval // 60, 'minute')} one free interval ends a jam: for a verdict add them up to "
@@ -289,13 +289,22 @@ class Congestion:
         """Return a verdict on each jam, or why there is none, and compare the flows that leave jams."""
         return [*describe_jams(self._found, self._measured), *describe_leaving(self._leaving)]
 
+    def _describe_estimates(self) -> str:
+        """Return what an estimate from station speeds leaves out."""
+        places = [one.series.station.km for one in self._segments]
+        gap = max(after - before for before, after in zip(places, places[1:]))
+        return (f"estimated from station speeds: a jam between two stations, which are up to {gap:.3g} km apart, is not seen" + (
+            "" if self._measured.mean == SPACE_MEAN else ". Time-mean speeds are higher than those of all cars in a jam. So the estimates are rather too low"))
+
     def _describe_times(self) -> str:
         """Return what the travel times are, or why there are none."""
         if self._times is None:
             return "no travel times: no car that departs in the window arrives in it with a measured speed all the way"
+        left_out, bridged = self._times.left_out, self._times.bridged
         return (f"travel times by trajectories: those of {count_things(self._times.number, 'car')} that depart {DEPARTURE} s apart and arrive in the window, the "
-                f"last one from {self._measured.clock.to_text(self._times.last)}. In each interval a car moves at the speed of its place: that at the nearest "
-                "station, or the mean of all cars there")
+                f"last one from {self._measured.clock.to_text(self._times.last)}{f', without {left_out} that pass where no station has a speed' * (left_out > 0)}. "
+                "In each interval a car moves at the speed of its place: that at the nearest station, or the mean of all cars there" + (
+                    f". {count_things(bridged, 'station interval')} without a speed: the speed is that of the nearest station that has one" if bridged else ""))
 
 
 def describe_means(mean: str) -> str:

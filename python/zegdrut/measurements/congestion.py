@@ -25,7 +25,7 @@ all. It includes the cars of a ramp between the two. In the simulation the inter
 Delay and travel time cover the stretch from the first to the last station with speeds. Each station stands for its segment, which ends
 halfway to the next station. The delay of an interval is cars x length x (1 / speed - 1 / free speed), by the cars and the speed at the
 station. A travel time is that of a trajectory: a car departs each minute, and in each interval moves at the speed of its segment, which is
-that at the station. The simulation has both at its stations, with speeds of the measured kind, and also by all cars: the delay of the cars
+that at the station, or, in an interval in which it has none, at the nearest station that has one. The simulation has both at its stations, with speeds of the measured kind, and also by all cars: the delay of the cars
 on the segment in each step, and the segment's space-mean speed, which also stands for the station in an interval in which no car passes it.
 Delays are summed over congested intervals only, and only where both a count and a speed were measured. Travel times are those of the cars
 that arrive in the window in the counts and on each simulated day.
@@ -405,6 +405,13 @@ class TravelTimes(NamedTuple):
     longest_at_stations: Both
     number: int
     last: int
+    bridged: int
+    """The number of station intervals that have the speed of the nearest station."""
+
+    @property
+    def left_out(self) -> int:
+        """Return how many departures until the last one have no time, because no station has a speed on their way."""
+        return self.last // DEPARTURE + 1 - self.number
 
 
 def list_segments(model: Model) -> list[Segment]:
@@ -453,7 +460,9 @@ def compare_travel_times(model: Model, segments: Sequence[Segment], days: Sequen
                for day in days]
     at_stations = [[[speed if one.speed is None else one.speed for one, speed in zip(*both)] for both in zip(day.at, of_day)]
                    for day, of_day in zip(days, on_road)]
-    fields: list[Sequence[Sequence[float | None]]] = [[one.series.speeds for one in segments], *on_road, *at_stations]
+    measured = bridge_speeds(segments)
+    bridged = sum(speed is not None and one.series.speeds[place] is None for one, line in zip(segments, measured) for place, speed in enumerate(line))
+    fields: list[Sequence[Sequence[float | None]]] = [measured, *on_road, *at_stations]
     lengths, found = [one.km for one in segments], dict[int, list[float]]()
     for departure in range(0, model.window_steps if segments else 0, DEPARTURE):
         times = [follow_car(lengths, speeds, model.measured.interval, departure) for speeds in fields]
@@ -467,7 +476,17 @@ def compare_travel_times(model: Model, segments: Sequence[Segment], days: Sequen
     def compare(choose: Callable[[Sequence[float]], float], of_days: Sequence[Sequence[float]]) -> Both:
         return Both(choose(of_counts), *estimate_days([choose(times) for times in of_days]))
     by_cars, by_stations = drawn[:len(days)], drawn[len(days):]
-    return TravelTimes(compare(fmean, by_cars), compare(max, by_cars), compare(fmean, by_stations), compare(max, by_stations), len(found), max(found))
+    return TravelTimes(compare(fmean, by_cars), compare(max, by_cars), compare(fmean, by_stations), compare(max, by_stations), len(found), max(found),
+                       bridged)
+
+
+def bridge_speeds(segments: Sequence[Segment]) -> list[list[float | None]]:
+    """Return the measured speeds of the segments. In an interval in which a station has none, it is that of the nearest station with one."""
+    found = []
+    for one in segments:
+        near = sorted(segments, key=lambda other: abs(other.series.station.km - one.series.station.km))
+        found.append([next((speed for speed in speeds if speed is not None), None) for speeds in zip(*(other.series.speeds for other in near))])
+    return found
 
 
 def follow_car(lengths: Sequence[float], speeds: Sequence[Sequence[float | None]], interval: int, departure: int) -> float | None:
