@@ -6,7 +6,6 @@ import {askDays, comparedNow, daysAsked, daysShown, dropDays, dropOldDays, stopD
 import {$, button, childrenOf, element, findElement} from "./elements.mjs";
 import {figureTable, wordsOf} from "./figuretable.mjs";
 import {store, watch} from "./store.mjs";
-import {PER_LANE} from "./units.mjs";
 
 /** @typedef {import("./types.mjs").DaysFigures} DaysFigures */
 
@@ -22,7 +21,7 @@ const readText = ({days, figures}) => [
   wordsOf(figures)].join(" ").trim();
 /** @param {DaysFigures} said */
 const captionText = (said) =>
-  `${daysText(said)}, ${store.day.timeText(said.from)} to ${store.day.timeText(said.to)}, ${PER_LANE}`;
+  `${daysText(said)}, ${store.day.timeText(said.from)} to ${store.day.timeText(said.to)}`;
 
 /** Start the comparison, stop it, or go back to the figures of one day. */
 function doNext() {

@@ -4,6 +4,7 @@
 import {element, headCell, row} from "./elements.mjs";
 import {changeText, halfText, meanText, sureText} from "./estimates.mjs";
 import {changeTexts, orderOf, roadText} from "./roadnames.mjs";
+import {PER_LANE} from "./units.mjs";
 
 /** @typedef {import("./types.mjs").FigureRow} FigureRow */
 /** @typedef {import("./types.mjs").RoadName} RoadName */
@@ -85,7 +86,7 @@ export function figureTable(view, roads, rows, caption = "", unknown = NO_VALUE)
   const heads = [...order.map((road) => roadText(roads[road])), ...changes];
   const isBeside = (/** @type {FigureRow} */ one, /** @type {number} */ place) => !place || one.figure.of[0] !== null;
   return element("table", "", {className: roads.length > 2 ? "figures several" : "figures"}, ...(caption ? [element("caption", caption)] : []),
-    element("thead", "", {}, row(element("td"), ...heads.map((head) => headCell(head)))),
+    element("thead", "", {}, row(element("td", PER_LANE), ...heads.map((head) => headCell(head)))),
     element("tbody", "", {}, ...groupRows(view, rows).map((group) => row(headCell(group[0].figure.title, "row"),
       ...order.map((road) => groupCell(group, valueOf(road))),
       ...changes.map((_, place) => groupCell(group.filter(isBeside), changeOf(place), group[0].bounds[place]))))));

@@ -9,7 +9,7 @@ import {affectedBy, newestFirst, titlesOf} from "./changetexts.mjs";
 import {focusOnLists} from "./changelists.mjs";
 import * as messages from "./messages.mjs";
 import {layersOf, store, watch} from "./store.mjs";
-import {PER_LANE, plural} from "./units.mjs";
+import {plural} from "./units.mjs";
 
 /** @typedef {import("./changetexts.mjs").Words} Words */
 /** @typedef {import("./types.mjs").Change} Change */
@@ -96,7 +96,7 @@ function coversOf(changes, said) {
  * @param {Figures} said
  */
 function figuresTable({figures, from, to}) {
-  const caption = `${store.day.timeText(from)} to ${store.day.timeText(to)}, ${PER_LANE}`;
+  const caption = `${store.day.timeText(from)} to ${store.day.timeText(to)}`;
   return element("div", "", {}, element("div", "", {className: "scrolled"}, figureTable("preview", ["before", "after"], figures, caption)),
     element("p", [messages.READ_FIGURES, wordsOf(figures)].join(" ").trim(), {className: "hint"}));
 }

@@ -10,7 +10,7 @@ export const HOUR = 3600;              // steps
 export const MINUTE = 60;
 export const ALWAYS = 65536;           // a chance of 1, in the plan's units
 export const LAST_STEP = 1048575;
-/** What cars, flows and vehicle hours are: the model has one lane. The heading of each table says so. */
+/** What cars, flows and vehicle hours are: the model has one lane. The head of each table says so. */
 export const PER_LANE = "per lane";
 
 /** Return the place of a cell's beginning in km.

@@ -164,7 +164,9 @@ class Approach(BrowserCase):
                 self.assertEqual(found, [round(after, digits), round(before, digits)], (name, digits))
         tab.press("Share…: Closed")  # all minutes from minute 0 on
         rows = preview_rows(tab)
-        self.assertEqual(tab.script("return $('previewFigures').querySelector('caption').textContent"), "07:00 to 07:10, per lane")
+        self.assertEqual(tab.script("return $('previewFigures').querySelector('caption').textContent"), "07:00 to 07:10")
+        heads = "return ['figures', 'previewFigures'].map((ident) => $(ident).querySelector('thead td').textContent)"
+        self.assertEqual(tab.script(heads), ["per lane"] * 2)
         self.assertEqual([rows[name][:2] for name in names.values()], [(exact[name][1], exact[name][0]) for name in names.values()])
         self.assertGreater(exact[names["approach hours"]][0] or 0, (exact[names["approach hours"]][1] or 0) + 0.1)
 

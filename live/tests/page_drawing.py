@@ -336,8 +336,9 @@ class OneFreeway(BrowserCase):
             tab.settled()
             first, second = tab.script("return ends")
             milliseconds = second - first
-            count += 1 if milliseconds < DOUBLE_CLICK else 2
-            self.assertEqual(len(operations_of(self.server)), count)
+            more = len(operations_of(self.server)) - count
+            self.assertIn(more, (1, 2) if milliseconds >= DOUBLE_CLICK else (1,))  # two equal clicks are one while the first one is pending
+            count += more
 
     def test_a_road_of_8192_cells_is_drawn(self) -> None:
         tab, = self.open({**FREEWAY, "length": 8192, "zone": 128, "zones": [[5, 6554]] * 64, "detectors": [4000, 8000]})
