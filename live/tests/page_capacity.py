@@ -4,6 +4,12 @@ from __future__ import annotations
 from browsers import FREEWAY, BrowserCase, operations_of, shapes_of
 from works import admits
 
+# Records the lines of the list of own changes whenever one changes.
+LISTED = """
+    window.listed = [];
+    const lines = () => [...document.querySelectorAll("#own > li > .note")].map((one) => one.textContent.trim().replace(/\\s+/g, " "));
+    new MutationObserver(() => listed.push(lines())).observe($("own"), {childList: true, subtree: true, characterData: true});"""
+
 
 class OneTab(BrowserCase):
     """One tab on a freeway. Its zones have 50 cells, 375 m, and its drivers a slowing chance of 0.1."""
@@ -18,13 +24,13 @@ class OneTab(BrowserCase):
         tab.tool("capacity")
         tab.fill(kmFrom="3", kmTo="3.75", timeFrom="0:20", timeTo="0:40")
         self.assertEqual([tab.part(field).get_attribute("value") for field in ("capacity", "worksLimit")], ["900", "2"])
-        for _ in range(3):
-            tab.press_in("#apply")
-        waiting = "Capacity 900 cars/h: limit 54 km/h, 3–3.75 km, 0:20:00–0:40:00 waiting"
-        tab.until(lambda: tab.lines("own") in ([waiting], []), "waits")
-        self.assertEqual(operations_of(self.server), [])
+        tab.script(LISTED)
+        tab.script("for (const _ of [1, 2, 3]) $('apply').click();")
         tab.until(lambda: operations_of(self.server), "measured")
         tab.settled()
+        listed = tab.script("return listed")
+        self.assertIn(["Capacity 900 cars/h: limit 54 km/h, 3–3.75 km, 0:20:00–0:40:00 waiting"], listed)
+        self.assertLessEqual(max(map(len, listed)), 1)
         (kind, *places, value), = shapes_of(operations_of(self.server)[0])
         self.assertEqual((kind, places, value[:2]), ("capacity", [8, 9, 1200, 2400], [900, 2]))
         self.assertEqual(len(operations_of(self.server)), 1)
