@@ -147,7 +147,7 @@ class Variants(BrowserCase):
         self.assertEqual(re.findall("<td>([^<]*)</td>", line)[:6:2], hours)
         for wanted in ("<h1>“night”, “noon” and the shared road: 0:00:00 to 0:10:00</h1>",
                        "<th>mean of 2 days, per lane</th><th>“night”</th><th>±</th><th>“noon”</th><th>±</th><th>shared</th><th>±</th>",
-                       "<th>difference from “night”</th><th>“noon”</th><th>±</th><th></th><th>shared</th>"):
+                       "<th>difference from “night”, per lane</th><th>“noon”</th><th>±</th><th></th><th>shared</th>"):
             self.assertIn(wanted, page)
         self.assertEqual(page.count('class="field"'), 3)
         self.assertEqual(re.findall("<li>(Closed [^<]*)</li>", page), [

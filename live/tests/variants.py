@@ -405,7 +405,7 @@ class Compared(Case):
         head = "".join(f"<th>{name}</th><th>±</th>" for name in ("shared", "Ada", "“night”", "file"))
         self.assertIn(f"<th>mean of 2 days, per lane</th>{head}", html)
         later = "".join(f"<th>{name}</th><th>±</th><th></th>" for name in ("Ada", "“night”", "file"))
-        self.assertIn(f"<th>difference from shared</th>{later}", html)
+        self.assertIn(f"<th>difference from shared, per lane</th>{later}", html)
         self.assertEqual(html.count('class="field"'), 4)
         hours = [statistics.mean(self.run_of(at, day).hours(60, 300) for day in range(2)) for at in of]
         line = html.partition("<td>vehicle hours on the road</td>")[2].partition("</tr>")[0]
