@@ -22,6 +22,7 @@ from zegdrut.sweeps import NoWorker, sweep
 from zegdrut.sweeps.results import read_rows
 
 PATIENCE = 120.0
+TRIES = 5  # to see a sweep before it has ended
 MODEL = '''
 import os, time
 from pathlib import Path
@@ -246,12 +247,18 @@ class Dask(Folder):
                 os.killpg(process.pid, signal.SIGKILL)
             process.wait()
 
-    def until_rows(self, name: str, count: int) -> int:
-        """Wait until a table has some rows. Return their number."""
-        path, until = self.folder / name, time.monotonic() + PATIENCE
-        while (not path.exists() or len(read_rows(path)) < count) and time.monotonic() < until:
-            time.sleep(0.02)
-        return len(read_rows(path))
+    def begin_sweep(self) -> tuple[subprocess.Popen[str], str]:
+        """Start a sweep, and wait until its table has some rows, but not all: a busy machine may look too late, and then another sweep is started.
+        Return its process and its table."""
+        for number in range(TRIES):
+            path, until = self.folder / f"dask{number}.csv", time.monotonic() + PATIENCE
+            running = self.run_sweep(path.name, "--dask", self.address, "--ship", python=self.python, wait=False)
+            while (not path.exists() or len(read_rows(path)) < 4) and time.monotonic() < until:
+                time.sleep(0.02)
+            if 0 < len(read_rows(path)) < 60:
+                return running, path.name
+            running.communicate(timeout=PATIENCE)
+        raise AssertionError(f"the table had no rows or all rows at {TRIES} looks")
 
     def test_workers_without_the_repository(self) -> None:
         self.run_sweep("own.csv", python=self.python)
@@ -259,27 +266,23 @@ class Dask(Folder):
         ran = self.run_sweep("none.csv", "--dask", self.address, python=self.python)
         self.assertRegex(ran.said, r"the worker .*, process \d+ cannot run this sweep: it has no package zegdrut: install it there, or send it")  # type: ignore[attr-defined]
         self.assertEqual((ran.returncode, read_rows(self.folder / "none.csv")), (2, []))
-        running = self.run_sweep("dask.csv", "--dask", self.address, "--ship", python=self.python, wait=False)
-        before = self.until_rows("dask.csv", 4)
+        running, table = self.begin_sweep()
         os.killpg(workers[0].pid, signal.SIGKILL)
         self.assertEqual(running.wait(2 * PATIENCE), 0)
-        self.assertIn("60 runs are in dask.csv", running.communicate()[1].splitlines())  # Dask may complain afterwards
-        self.assertLess(before, 60)
-        self.assertEqual((self.folder / "dask.csv").read_bytes(), (self.folder / "own.csv").read_bytes())
+        self.assertIn(f"60 runs are in {table}", running.communicate()[1].splitlines())  # Dask may complain afterwards
+        self.assertEqual((self.folder / table).read_bytes(), (self.folder / "own.csv").read_bytes())
 
     def test_a_scheduler_that_is_started_again(self) -> None:
         """Kill the scheduler, whose workers then end, and start it again with another worker: each run is in the table once."""
         self.run_sweep("own.csv", python=self.python)
         self.start_worker("one")
-        running = self.run_sweep("dask.csv", "--dask", self.address, "--ship", python=self.python, wait=False)
-        before = self.until_rows("dask.csv", 4)
+        running, table = self.begin_sweep()
         os.killpg(self.processes[0].pid, signal.SIGKILL)
         self.processes[0].wait()
         self.start_scheduler("scheduler again")
         self.start_worker("two")
-        self.assertEqual((running.wait(2 * PATIENCE), running.communicate()[1].splitlines()[-1]), (0, "60 runs are in dask.csv"))
-        self.assertLess(before, 60)
-        self.assertEqual((self.folder / "dask.csv").read_bytes(), (self.folder / "own.csv").read_bytes())
+        self.assertEqual((running.wait(2 * PATIENCE), running.communicate()[1].splitlines()[-1]), (0, f"60 runs are in {table}"))
+        self.assertEqual((self.folder / table).read_bytes(), (self.folder / "own.csv").read_bytes())
 
     def test_days(self) -> None:
         """Calibrate, meter, and run the days of a report and of a comparison, by processes and by a worker without the repository: all

@@ -11,7 +11,7 @@ from zegdrut import Car, Fault, Plan, RoadLab
 from zegdrut.figures import (FREEWAY, Figure, Mean, Of, RoadRun, Value, choose, compare, compare_roads, list_figures, list_means, measure_day,
                              measure_roads, read_run, simulate_days)
 from zegdrut.figures import days as figures_of_days
-from zegdrut.figures.queues import Waits, with_lost
+from zegdrut.figures.queues import Ends, Waits, with_lost
 from zegdrut.figures.trips import Window
 from zegdrut.roads.demand import Drivers
 
@@ -298,7 +298,7 @@ class Days(unittest.TestCase):
         nobody = [Waits(frozenset(), False, None)] * 2
         for end, wanted in ((None, ["wait"]), (8.0, ["wait", "wait end"])):
             values = [[Value(0.0, 2.0, 2.0), Value(None, 5.0, None)], [Value(0.0, 0.0, 0.0), Value(None, end, None)]]
-            rows = figures_of_days.Days(figures, [1, 2], values, [nobody] * 2, Drivers(5, 0), [{}, {}]).rows()
+            rows = figures_of_days.Days(figures, [1, 2], values, [nobody] * 2, Drivers(5, 0), [{}, {}], Ends()).rows()
             self.assertEqual([row.figure.key for row in rows], wanted)
 
     def test_results_in_the_order_of_the_seeds(self) -> None:
