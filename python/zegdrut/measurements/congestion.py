@@ -345,7 +345,7 @@ def compare_queues(one: Leaving) -> str:
         return "and no simulated day has a jam there"
     ratio = one.simulated / one.measured
     verdict = (f"they agree within {100 * LEAVING_ERROR:.0f} %" if abs(ratio - 1) <= LEAVING_ERROR else
-               f"queues of this road last too {'long' if ratio < 1 else 'short'}")
+               "queues of this road last too " + ("long, so works cost too much on it" if ratio < 1 else "short, so works cost too little on it"))
     return f"{one.simulated:,.0f}{'' if one.half is None else f' ± {one.half:,.0f}'} simulated: {verdict}"
 
 
