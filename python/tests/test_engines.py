@@ -281,7 +281,8 @@ class Dask(Folder):
         self.processes[0].wait()
         self.start_scheduler("scheduler again")
         self.start_worker("two")
-        self.assertEqual((running.wait(2 * PATIENCE), running.communicate()[1].splitlines()[-1]), (0, f"60 runs are in {table}"))
+        self.assertEqual(running.wait(2 * PATIENCE), 0)
+        self.assertIn(f"60 runs are in {table}", running.communicate()[1].splitlines())
         self.assertEqual((self.folder / table).read_bytes(), (self.folder / "own.csv").read_bytes())
 
     def test_days(self) -> None:
