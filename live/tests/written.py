@@ -425,7 +425,8 @@ class Stalled(Case):
         await self.here.lab.seating.list_saved_seats()
 
     async def stalls(self, *names: str) -> None:
-        """Stall from the next call with such a name on."""
+        """Stall from the next call with such a name on, and forget what was reported before: a busy disk may have stalled, too."""
+        self.told.clear()
         held, is_stalled = self.disk.free, threading.Event()
         self.is_stalled = is_stalled
         held.clear()
@@ -460,7 +461,6 @@ class Stalled(Case):
     async def test_changes_are_pending_and_all_else_goes_on(self) -> None:
         await self.here.lab.road_clock.set_clock(rate=60)
         for names in (("write",), ("fsync",)):
-            self.told.clear()
             await self.stalls(*names)
             before = len([one for one in self.here.entries() if "made" in one])
             gestures = [asyncio.create_task(self.here.put(seat, [*LIMIT, 3])) for seat in (self.ada, self.ben, self.ada)]
