@@ -230,7 +230,7 @@ def find_units(given: argparse.Namespace) -> Path:
 
 
 def read_clock(given: argparse.Namespace) -> Clock | None:
-    """Return the clock of minute 0 that units.json has, whose form `read_units` has checked; None if there is none."""
+    """Return the clock of minute 0 in units.json, or None if the file has no clock. `read_units` has checked its form."""
     path = find_units(given)
     found = json.loads(path.read_text(encoding="utf-8")) if path.exists() else {}
     try:

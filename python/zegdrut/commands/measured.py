@@ -286,7 +286,7 @@ class Congestion:
         return [*said, *self._lost_cars]
 
     def judge_jams(self) -> list[str]:
-        """Return a verdict on each jam, or why there is none, and compare the flows that leave jams."""
+        """Return a verdict on each jam, or say why no jam is judged, and compare the flows that leave jams."""
         return [*describe_jams(self._found, self._measured), *describe_leaving(self._leaving)]
 
     def _describe_estimates(self) -> str:
@@ -297,7 +297,7 @@ class Congestion:
             "" if self._measured.mean == SPACE_MEAN else ". Time-mean speeds are higher than those of all cars in a jam. So the estimates are rather too low"))
 
     def _describe_times(self) -> str:
-        """Return what the travel times are, or why there are none."""
+        """Describe the travel times, or say why they are unknown."""
         if self._times is None:
             return "no travel times: no car that departs in the window arrives in it with a measured speed all the way"
         left_out, bridged = self._times.left_out, self._times.bridged
