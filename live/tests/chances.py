@@ -11,6 +11,7 @@ from typing import Any, Iterator, Sequence, cast
 from unittest import mock
 
 from zegdrut.figures import Value
+from zegdrut.figures.queues import Ends
 from zegdrut.figures.table import FREEWAY
 from zegdrut.program.wire import PlanLine
 
@@ -122,9 +123,9 @@ class Days(Case):
         """The second day ends first, and the first one is 1, the second 2, the third 4."""
         figures = list_figures(cast(PlanLine, SMALL), FREEWAY)
 
-        def ended(_make: object, seeds: Sequence[int]) -> Iterator[tuple[int, list[list[Value]]]]:
+        def ended(_make: object, seeds: Sequence[int]) -> Iterator[tuple[int, comparison.Day]]:
             for place in (1, 0, 2):
-                yield place, [[Value(2.0 ** place, 2.0 ** place, 0.0)] * len(figures)]
+                yield place, comparison.Day([[Value(2.0 ** place, 2.0 ** place, 0.0)] * len(figures)], [Ends()])
         road = {"name": "a", "edits": [], "demands": [[(0, 500.0)] for _ in SMALL["inlets"]]}
         compared: Any = {"plan": SMALL, "roads": [road, road], "first": 20, "last": 200, "program": str(program()), "origin": 0}
         with mock.patch("server.figures.comparison.iterate_days", ended):
