@@ -98,7 +98,10 @@ class Reports(Case):
         self.assertIsNone(re.search(r'(src|href)="(?!data:)|<script|<button', page))
 
     async def test_the_report_on_a_calibrated_road_says_how_sure_its_drivers_are(self) -> None:
-        """Beside the figures of one day, which have no ±, the sentence does not name it. Without a freeway file there is no such sentence."""
+        """Beside the figures of one day, which have no ±, the sentence does not name it. The next one says where the table of ranges is. Without a
+        freeway file that was calibrated there is no such sentence."""
+        elsewhere = (" This report has no table of how far the figures move with these drivers: the report that <code>python3 -m zegdrut report</code> "
+                     "writes of the freeway file has one, for the works of that file.")
         said = ("Calibration: 12.0 to 41.0 vehicle hours of delay per lane on the calibrated day by drivers that fit its counts equally well within chance, "
                 "and 30.0 by those of the file")
         drivers = {"slowing": 0.1, "start": 0.2, "factor": 0.5}
@@ -113,7 +116,30 @@ class Reports(Case):
                         (here.keeper.folder / FREEWAY_FILE).write_text(json.dumps(file), encoding="utf-8")
                     with mock.patch("server.figures.report.DAYS", 2):
                         page = (await soon(here.ask(seat, "report", **ASKED, **SPAN)))["html"]
-                    self.assertEqual(re.findall(f"{re.escape(said)}(.*?)</p>", page), wanted)
+                    self.assertEqual(re.findall(f"{re.escape(said)}(.*?)</p>", page), [one + elsewhere for one in wanted])
+                    self.assertEqual("zegdrut report" in page, bool(wanted))
+
+    async def test_the_report_says_that_nothing_shows_how_sure_capacities_are(self) -> None:
+        """It names those of all compared roads, each once, and those of no other road, nor what is withdrawn."""
+        async with Here() as here:
+            seat, = await here.join("Ada")
+            await here.lab.road_clock.set_clock(to=600)
+
+            async def put(key: str, cars: int) -> Any:
+                return (await here.ask(seat, "gesture", key=key, shape=["capacity", 3, 3, 100, 300, [cars, 2, 20_000, 20_000]]))["stamp"]
+
+            async def said(*of: str) -> list[str]:
+                with mock.patch("server.figures.report.DAYS", 1):
+                    page = (await soon(here.ask(seat, "report", **{**ASKED, "of": [*of]}, **SPAN)))["html"]
+                return re.findall(r"No interval and no range shows how sure the (.*?): try others\.", page)
+            self.assertEqual(await said("shared", "seat1"), [])
+            await put("shared", 1_200)
+            await here.share(seat)
+            self.assertEqual(await said("shared", "seat1"), ["capacity of 1,200 cars/h is"])
+            await put("own", 900)
+            await here.ask(seat, "undo", stamp=await put("undone", 800), key="undo")
+            self.assertEqual(await said("shared", "seat1"), ["capacities of 900 and 1,200 cars/h are"])
+            self.assertEqual(await said("shared", "file"), ["capacity of 1,200 cars/h is"])
 
     async def test_an_invalid_report_is_refused(self) -> None:
         async with Here() as here:

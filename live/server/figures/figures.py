@@ -35,8 +35,8 @@ MOST_FIGURE_ROADS = 12  # roads that are kept
 NICE = 5  # below editing, above what takes longer
 ENTRY = 60  # steps: travel times are grouped by the minute in which the cars entered
 
-ComparedRoad = TypedDict("ComparedRoad", {"name": str, "edits": Sequence[WrittenEdit], "demands": Sequence[AskedRates]})
-"""A road: what it is called, its edits, and the demands that were asked for, by inlet."""
+ComparedRoad = TypedDict("ComparedRoad", {"name": str, "edits": Sequence[WrittenEdit], "demands": Sequence[AskedRates], "capacities": Sequence[int]})
+"""A road: what it is called, its edits, the demands that were asked for, by inlet, and the capacities of its works in cars per hour."""
 ComparedRoads = TypedDict("ComparedRoads", {
     "plan": PlanLine, "roads": Sequence[ComparedRoad], "first": int, "last": int, "program": str, "origin": int})
 """Two roads or more with the same plan, a window of the steps `first` to `last` - 1, the path of road_lab, and the cell at km 0. Each road

@@ -129,7 +129,7 @@ def make_ranges_html(sides: Sequence[Side], ranges: Sequence[RangeRow], days: in
               *(format_range(one, row.figure, None) for one in row.differences)] for row in ranges]
     said = [f"From the least to the greatest mean of {count_things(days, 'day')} with the drivers of the file and with two others that fit the counts as "
             "well within chance: those with the least and the most delay."] * bool(ranges) + [f"{one[0].upper()}{one[1:]}." for one in sentences]
-    return (make_grid_html(head, lines) if ranges else "") + f'<p class="note">{" ".join(map(escape, said))}</p>' * bool(said)
+    return (make_grid_html(head, lines) if ranges else "") + f'<p class="note">{" ".join(map(escape_text, said))}</p>' * bool(said)
 
 
 def format_mean(value: float | None, figure: Figure, begin: Clock | None) -> str:
