@@ -117,6 +117,8 @@ class Days(Case):
             self.assertEqual(await soon(self.here.ask(self.ada, "days", of=None)), {"stopped": True})
             said = await soon(question)
             self.assertEqual((said["days"], said["stopped"]), (days, True))
+            self.assertEqual(said["warnings"], [] if days == 1 else [
+                f"2 days are few: ± is then {T_OF[1]:.1f} standard errors of the mean (2.0 for many days). Use 5 days or more"])
             self.are_means(said, await self.of_days(days))
 
     def test_days_count_in_the_order_of_their_seeds(self) -> None:

@@ -22,8 +22,9 @@ BOUNDED = ("delay", "hours")
 """The keys of the figures that do not include what late cars lose."""
 
 
-def count_last(before: Run, after: Run, last: int) -> tuple[int, int, int]:
+def count_last(runs: Sequence[Run], last: int) -> tuple[int, int, int]:
     """Return the cars in the row `last` of two roads, and how many more the second one has of those that both have had up to then."""
+    before, after = runs
     there, here = ({number for number, (begin, end) in run.seen.items() if begin <= last <= end} for run in (before, after))
     both = {number for number in before.seen.keys() & after.seen.keys() if number // 16 < last}
     return len(there), len(here), len(here & both) - len(there & both)
@@ -64,7 +65,7 @@ class Ends(Case):
         own = mine(self.ada)
         for last, bounds in ((STEPS, ("", "")), (400, ("at least", "at most"))):
             for of, names, runs, bound in zip((own, own[::-1]), (("shared", "mine"), ("mine", "shared")), ((before, after), (after, before)), bounds):
-                words = explain(names, [count_last(*runs, last)])
+                words = explain(names, [count_last(runs, last)])
                 self.assertEqual(bool(words), bool(bound))
                 self.are(await soon(self.here.ask(self.ada, "figures", of=of, **{"from": 60, "to": last})), 0, bound, words)
 
@@ -73,20 +74,20 @@ class Ends(Case):
         await self.here.ask(self.ada, "variant", name="night")
         before, after = await self.runs()
         said = await soon(self.here.ask(self.ada, "figures", of=["shared", "file", "variant:night"], **{"from": 60, "to": 400}))
-        words = explain(["shared", "“night”"], [count_last(before, after, 400)])
+        words = explain(["shared", "“night”"], [count_last([before, after], 400)])
         for place, bound in enumerate(("", "at least")):
             self.are(said, place, bound, words)
 
     async def test_many_days(self) -> None:
         self.here.keeper.settings = Settings(days=3)
-        days = [count_last(*await self.runs(day), 400) for day in range(3)]
+        days = [count_last(await self.runs(day), 400) for day in range(3)]
         self.assertGreater(len({more for *_, more in days}), 1)
         words = explain(["shared", "mine"], days)
         self.assertIn("The run ends too early", words)
         self.are(await soon(self.here.ask(self.ada, "days", of=mine(self.ada), **{"from": 60, "to": 400})), 0, "at least", words)
 
     async def test_the_report(self) -> None:
-        days = [count_last(*await self.runs(day), 400) for day in range(2)]
+        days = [count_last(await self.runs(day), 400) for day in range(2)]
         with mock.patch("server.figures.report.DAYS", 2):
             html = (await soon(self.here.ask(self.ada, "report", of=mine(self.ada), title="Works", works=["a"], **{"from": 60, "to": 400})))["html"]
         words = explain(["shared", "Ada"], days)

@@ -370,7 +370,7 @@ class Compared(Case):
                                  [*alone["values"], *alone["differences"], *alone["bounds"]], row["figure"])
                 bounds |= {row["bounds"][place]}
                 if "lost" in alone["words"]:
-                    self.assertIn("lost", row["words"])
+                    self.assertEqual(row["words"].count("Cars that cannot enter are lost"), 1)
         self.assertGreater(len(bounds), 1)
 
     async def test_days_of_three_roads_are_means_of_their_days(self) -> None:

@@ -91,7 +91,9 @@ class Reports(Case):
             row, = (one for one in days["figures"] if one["figure"]["key"] == key)
             means = [f"{part:,.{digits}f}" for one in (*row["values"], *row["differences"]) for part in one]
             self.assertEqual(rows_of(page)[name][:6], means, name)
-        for wanted in ("<h1>The road of &lt;Ada&gt;: 0:01:00 to 0:10:00</h1>", "<li>a &amp; b</li>", "@page { size: A4", "Seeds 1 to 4",
+        few = "4 days are few: ± is then 3.2 standard errors of the mean (2.0 for many days). Use 5 days or more"  # (Student's t of a printed table)
+        self.assertEqual(days["warnings"], [few])
+        for wanted in (f'<p class="warning">{few}.</p>', "<h1>The road of &lt;Ada&gt;: 0:01:00 to 0:10:00</h1>", "<li>a &amp; b</li>", "@page { size: A4", "Seeds 1 to 4",
                        "main road: ", "on-ramp at km 0.3: ", "0.9 km, one lane, limit 135 km/h, slowing 10%", "off-ramps, junctions and trucks"):
             self.assertIn(wanted, page)
         self.assertNotIn("<b>", page)

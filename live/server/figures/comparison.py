@@ -12,6 +12,7 @@ from typing import Awaitable, Callable, Iterator, NamedTuple, Sequence, TypedDic
 
 from zegdrut.figures import Value, compare_roads, measure_roads
 from zegdrut.figures.days import SEEDS
+from zegdrut.figures.intervals import warn_few_days
 from zegdrut.figures.queues import Ends
 from zegdrut.figures.simulation import iterate_days
 from zegdrut.figures.trips import Window
@@ -43,7 +44,7 @@ class Comparisons:
 
     async def compare(self, mine: Comparison, name: Callable[[int], str], find_roads: Callable[[], Awaitable[ComparedRoads]],
                       progress: Callable[[int], None]) -> dict[str, object]:
-        """Return the figures of all days; if the comparison is stopped, of those that are done. Stop the seat's former comparison. Call
+        """Return the figures of all days, with warnings; if the comparison is stopped, of those that are done. Stop the seat's former comparison. Call
         `progress` with the number of days that are done. Raise `Refused` if a comparison of another seat is running; `name` returns its
         name."""
         now = self._now
@@ -69,7 +70,7 @@ class Comparisons:
         done = mine.answer["done"]
         if not done:
             raise Refused("Stopped", "the request was stopped before the first day was simulated")
-        return {"days": done, "stopped": done < mine.days, "figures": mine.answer["figures"]}
+        return {"days": done, "stopped": done < mine.days, "figures": mine.answer["figures"], "warnings": warn_few_days(done)}
 
     def stop(self, index: int | None = None) -> bool:
         """Stop the comparison of a seat, or of any seat if none is given. Return whether there was one."""
