@@ -5,6 +5,7 @@ import {assign} from "./assign.mjs";
 import {askDays, comparedNow, daysAsked, daysShown, dropDays, dropOldDays, stopDays} from "./comparison.mjs";
 import {$, button, childrenOf, element, findElement} from "./elements.mjs";
 import {figureTable, wordsOf} from "./figuretable.mjs";
+import {ALL_LANES} from "./messages.mjs";
 import {store, watch} from "./store.mjs";
 
 /** @typedef {import("./types.mjs").DaysFigures} DaysFigures */
@@ -18,7 +19,7 @@ const READ_MEANS = "each day has its own drivers, the same on all roads. \u00b1 
 /** @param {DaysFigures} said */
 const readText = ({days, figures, warnings}) => [
   days > 1 ? `Means of ${days} days: ${READ_MEANS}` : "One day alone cannot show what is due to chance.",
-  ...warnings.map((text) => `${text}.`), wordsOf(figures)].join(" ").trim();
+  ...warnings.map((text) => `${text}.`), ALL_LANES, wordsOf(figures)].join(" ").trim();
 /** @param {DaysFigures} said */
 const captionText = (said) =>
   `${daysText(said)}, ${store.day.timeText(said.from)} to ${store.day.timeText(said.to)}`;
