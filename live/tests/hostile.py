@@ -467,7 +467,7 @@ class Neighbours(Case):
         with self.assertRaises(ConnectionError):
             await deaf.reply("ping")
         await good.reply("ping")
-        self.assertLess(memory(server), 200)
+        self.assertLess(memory(server), 120)  # replies that nobody reads would be hundreds of megabytes
 
 
 def used(server: Server) -> int:
