@@ -292,9 +292,10 @@ class Kept(Case):
 
     async def test_a_program_that_crashes_is_replaced_once(self) -> None:
         """A road on which the program crashes again is refused, and the other roads of the seat are not. So are those of a preview."""
+        there = {*descendants()}
         await self.name("noon")
         await self.here.ask(self.ada, "preview", what="share")
-        crash = 'read -r plan; [ "$(wc -l < $STARTS)" -gt 1 ] || exit 3; ' + f'{{ printf "%s\\n" "$plan"; cat; }} | {program()}'
+        crash = f'[ "$(wc -l < $STARTS)" -gt 1 ] || exit 3; exec {program()}'
         for at, kept in (("variant:night", "night"), ("after", "noon")):
             starts = self.program_that(crash)
             found = await self.picture_of_rows(at)
@@ -310,6 +311,7 @@ class Kept(Case):
                     await soon(self.here.ask(self.ada, "advance", at=at, to=LAST))
                 self.assertEqual(starts.read_text(), wanted)
             self.assertEqual((await soon(self.here.ask(self.ada, "advance", at={"after": "before"}.get(at, "file"), to=LAST)))["horizon"], LAST)
+        await self.end_of_programs(there)
 
     async def picture_of_rows(self, at: str) -> Any:
         await self.here.ask(self.ada, "advance", at=at, to=LAST)
@@ -317,6 +319,7 @@ class Kept(Case):
 
     async def test_roads_that_are_being_queried_are_kept(self) -> None:
         """A query may take longer than roads are kept without one. They are kept as long after its end."""
+        there = {*descendants()}
         for at in ("variant:night", "after"):
             await self.here.ask(self.ada, "preview", what="share")
             await self.here.ask(self.ada, "advance", at=at, to=LAST)
@@ -331,6 +334,32 @@ class Kept(Case):
             with mock.patch("server.roads.fixed_roads.time.monotonic", return_value=late + UNUSED - 1):
                 self.here.questions.roads.find(self.ben, "file")
                 self.assertEqual(await self.picture_of_rows(at), self.rows["night"][0])
+        await self.end_of_programs(there)
+
+    async def test_a_query_of_a_preview_that_is_replaced_meanwhile_is_refused(self) -> None:
+        """Its program has ended, but did not crash."""
+        there = {*descendants()}
+        await self.here.ask(self.ada, "preview", what="share")
+        road, is_free = self.here.questions.roads.find(self.ada, "after"), asyncio.Event()
+
+        async def body() -> list[bytes]:
+            await is_free.wait()
+            return await road.say_all([b'{"cells":{"at":"road1","step":0}}'], {})
+        query = asyncio.ensure_future(road.run_job(body))
+        await asyncio.sleep(0)
+        await self.here.ask(self.ada, "preview", what="share")
+        is_free.set()
+        with self.assertRaisesRegex(Refused, "NoPreview"):
+            await soon(query)
+        await self.end_of_programs(there)
+
+    async def end_of_programs(self, there: set[int]) -> None:
+        """Drop the roads of the seat, and wait until only these processes are left."""
+        self.here.questions.drop_seat(self.ada)
+
+        async def are_none() -> bool:
+            return {*descendants()} <= there
+        await until(are_none, "no program is left")
 
     async def test_a_query_is_answered_while_another_variant_is_named(self) -> None:
         """Its roads are dropped for those with the new name once all queries are answered."""
