@@ -17,7 +17,7 @@ const settled = () => new Promise((done) => { setTimeout(done, 5); });
 
 let questions;
 
-/** Return the answer that lists changes of these names, of which there may be more. */
+/** Return the answer that lists changes of these names; there may be more of them. */
 const listed = (since, next, names, more = false) => ({since, next, more, undo: null, redo: null, blocked: [], layers: names.map((name) => ({
   name: [1, name], kind: "limit", shape: ["limit", 1, 1, 60, null, 2], who: "Ada", note: "", when: 0, height: [1, name], standing: true, shared: false, site: null,
   shown: [], operations: []}))});

@@ -1,4 +1,4 @@
-"""Test what the table of metering says of runs that end while cars are late, by the cars of each row."""
+"""Test that the table of metering describes runs that end while cars are late, by the cars of each row."""
 from __future__ import annotations
 
 import contextlib
