@@ -13,9 +13,9 @@ from zegdrut.figures.trips import Window
 from zegdrut.program.wire import PlanLine
 from zegdrut.reports.report import Side, make_tables, run_sides
 from zegdrut.reports.report_page import Contents, describe_approach, draw_demands, format_page
+from zegdrut.roads.calibrated import describe_calibration, read_calibration
 from zegdrut.roads.clock import Clock
 from zegdrut.roads.demand import Rates
-from zegdrut.roads.freeway_files import describe_calibration, read_calibration
 from zegdrut.roads.units import ALWAYS, KMH, Units, count_things
 from zegdrut.sweeps.pool import count_processors
 
