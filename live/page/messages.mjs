@@ -2,7 +2,7 @@
 // is, where, and what to do. What changes are called is in shapetexts.mjs.
 
 import {listText} from "./roadnames.mjs";
-import {plural, whole} from "./units.mjs";
+import {PER_LANE, plural, whole} from "./units.mjs";
 
 /** Return one of two words: the first if a count is 1.
  * @param {number} count
@@ -226,7 +226,8 @@ export const SAVING = "Saving \u2026";
 /** @param {number} days */
 export const makingReport = (days) => `Making the report: all roads are simulated over ${plural(days, "day")} \u2026`;
 export const READ_FIGURES = "Delay: of cars that both roads have.";
-export const ALL_LANES = "For all lanes, multiply cars, flows and vehicle hours by the number of lanes.";
+export const ALL_LANES =
+  `All figures are ${PER_LANE}: for the whole road multiply cars, flows and vehicle hours by the number of lanes.`;
 export const PAUSE_FOR_FIGURES =
   "Lost demand, delay and travel times are counted car by car: pause the clock to see them.";
 

@@ -334,7 +334,7 @@ class OneFreeway(BrowserCase):
             CanvasRenderingContext2D.prototype.fillText = fill;
             return texts.filter((text) => /[a-z]/.test(text));"""), ["cars/h per lane", "km/h", "s"])
         self.assertEqual(tab.script("return $('flowChart').ariaLabel"), "Flow per lane by time")
-        self.assertIn("For all lanes, multiply cars, flows and vehicle hours by the number of lanes.", tab.text("figuresNote"))
+        self.assertIn("All figures are per lane: for the whole road multiply cars, flows and vehicle hours by the number of lanes.", tab.text("figuresNote"))
         self.assertRegex(tab.save("Travel times", "travel-times.csv").read_text(encoding="utf-8"), "^# travel times of [^\n]*, per lane\n")
         drawn = tab.script("""
             const {width, height} = $("speedChart");

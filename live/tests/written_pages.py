@@ -102,17 +102,22 @@ class Reports(Case):
     async def test_the_report_on_a_calibrated_road_says_how_sure_its_drivers_are(self) -> None:
         """Beside the figures of one day, which have no ±, the sentence does not name it. The next one says where the table of ranges is. Without a
         freeway file that was calibrated there is no such sentence."""
-        elsewhere = (" This report has no table of how far the figures move with these drivers: the report that <code>python3 -m zegdrut report</code> "
+        elsewhere = (" This report has no table of how far the figures move with drivers that fit as well: the report that <code>python3 -m zegdrut report</code> "
                      "writes of the freeway file has one, for the works of that file.")
+        no_jam = " Calibration: the counts do not show the flow that leaves a jam, so nothing says whether queues of this road last as long as real ones."
+        jam = (" Calibration: flow that leaves the jam at station 103, counted at station 104: 1,500 cars/h per lane measured, 1,350 ± 20 simulated: queues of "
+               "this road last too long, so works cost too much on it.")
+        leaving = {"station": "103", "following": "104", "measured": 1_500.0, "simulated": 1_350.0, "half": 20.0}
         said = ("Calibration: 12.0 to 41.0 vehicle hours of delay per lane on the calibrated day by drivers that fit its counts equally well within chance, "
                 "and 30.0 by those of the file")
         drivers = {"slowing": 0.1, "start": 0.2, "factor": 0.5}
-        calibrated = {"calibration": {"delay": 30.0, "less": {**drivers, "delay": 12.04}, "more": {**drivers, "delay": 41.0}}}
+        calibrated: dict[str, Any] = {"delay": 30.0, "less": {**drivers, "delay": 12.04}, "more": {**drivers, "delay": 41.0}}
         for words, end in (("steady", "."), (7, ": ± does not include this.")):
             async with Here(plan={**SMALL, "words": words}) as here:
                 seat, = await here.join("Ada")
                 await here.lab.road_clock.set_clock(to=600)
-                cases: list[tuple[dict[str, Any] | None, list[str]]] = [(None, []), ({}, []), (calibrated, [end])]
+                cases: list[tuple[dict[str, Any] | None, list[str]]] = [
+                    (None, []), ({}, []), ({"calibration": calibrated}, [end + no_jam]), ({"calibration": {**calibrated, "leaving": [leaving]}}, [end + jam])]
                 for file, wanted in cases:
                     if file is not None:
                         (here.keeper.folder / FREEWAY_FILE).write_text(json.dumps(file), encoding="utf-8")

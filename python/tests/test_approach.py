@@ -231,9 +231,9 @@ class Commands(unittest.TestCase):
         for table, columns in (("counts.csv", 2), ("stretch.csv", 1)):
             self.assertEqual(*([line[:columns] for line in self.read_table(name, table)] for name in ("plain", "long")))
         before, after = ([line[:4] for line in self.read_table(name, "demand.csv")] for name in ("plain", "long"))
-        self.assertEqual(after, [before[0], ["-1.5", *before[1][1:]], before[2]])
-        self.assertEqual([line[1] for line in self.read_table("late", "counts.csv")][1:3], ["0", "1"])
-        self.assertEqual(self.read_table("late", "counts.csv")[5][2:], self.read_table("long", "counts.csv")[5][2:])
+        self.assertEqual(after, [*before[:2], ["-1.5", *before[2][1:]], before[3]])
+        self.assertEqual([line[1:2] for line in self.read_table("late", "counts.csv")][2:4], [["0"], ["1"]])
+        self.assertEqual(self.read_table("late", "counts.csv")[6][2:], self.read_table("long", "counts.csv")[6][2:])
         self.assertEqual(json.loads((self.folder / "long" / "units.json").read_text()), {"metres": 7.5, "seconds": 1, "origin": 200, "begin": 240,
                                                                                              "clock": "07:00"})
         scripts = [self.folder / "long" / name for name in ("without.jsonl", "script.jsonl")]

@@ -13,9 +13,9 @@ from zegdrut.figures.trips import Window
 from zegdrut.program.wire import PlanLine
 from zegdrut.reports.report import Side, make_tables, run_sides
 from zegdrut.reports.report_page import Contents, describe_approach, describe_capacities, draw_demands, format_page
+from zegdrut.roads.calibrated import describe_calibration, read_calibration
 from zegdrut.roads.clock import Clock
 from zegdrut.roads.demand import Rates
-from zegdrut.roads.freeway_files import describe_calibration, read_calibration
 from zegdrut.roads.units import ALWAYS, KMH, Units, count_things
 from zegdrut.sweeps.pool import count_processors
 
@@ -29,7 +29,7 @@ DAYS = 5
 MOST_SECONDS = child.PATIENCE
 """The seconds that a report may take."""
 NICE = 8
-NO_RANGES = ("this report has no table of how far the figures move with these drivers: the report that `python3 -m zegdrut report` writes of the "
+NO_RANGES = ("this report has no table of how far the figures move with drivers that fit as well: the report that `python3 -m zegdrut report` writes of the "
              "freeway file has one, for the works of that file")
 MOST_DATES = 12  # changes of a demand that a sentence lists; if there are more, the chart shows them
 ReportQuestion = TypedDict("ReportQuestion", {

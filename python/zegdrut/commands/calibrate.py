@@ -40,9 +40,10 @@ from ..program.errors import Fault, LabError, describe_error
 from ..program.programs import program_path
 from ..reports.outputs import prepare_folder
 from ..reports.pictures import draw_points, stack_drawings
+from ..roads.calibrated import Alternative, Calibrated, Leaving
 from ..roads.demand import BeyondCapacity
 from ..roads.freeway import Figures, make_road, measure_chances
-from ..roads.freeway_files import Alternative, Calibrated, write_road
+from ..roads.freeway_files import write_road
 from ..roads.units import count_things
 from .freeway import FIGURES
 from .measured import (DAYS, Congestion, add_congestion_argument, add_data_arguments, check_congested, format_shares, print_lines, read_days,
@@ -277,7 +278,7 @@ def run_calibration(given: argparse.Namespace, out: Path) -> None:
                     sure = measure_alternatives(given, alternatives, (road, day), best, congestion.delay)
                     print_lines([describe_alternatives(alternatives, found, sure, congestion)])
                     if day is measured:
-                        write_road(path, given.road, dataclasses.replace(calibrated, calibration=sure.to_file()))
+                        write_road(path, given.road, dataclasses.replace(calibrated, calibration=sure.to_file(congestion.leaving)))
     more = "".join(f" {word}" for word in list_count_words(given))
     print(f"The calibrated road, the points and the picture are in {folder}. Compare the road with its counts by "
           f"`recipes/measured/run {path} {given.counts}{more} --demand road`", file=sys.stderr)
@@ -343,9 +344,9 @@ class Sure(NamedTuple):
     less: tuple[Alternative, Both]
     more: tuple[Alternative, Both]
 
-    def to_file(self) -> Calibrated:
-        """Return what the file of the calibrated road has of this."""
-        return Calibrated(round(self.delay.simulated, 2), self.less[0], self.more[0])
+    def to_file(self, leaving: Sequence[Leaving]) -> Calibrated:
+        """Return what the file of the calibrated road has of this and of the flows that leave the jams of the day."""
+        return Calibrated(round(self.delay.simulated, 2), self.less[0], self.more[0], tuple(map(round_flow, leaving)))
 
     def describe(self) -> str:
         """Return the least and the most delay, each with half its 95 % interval, and a remark if the range is on one side of the result."""
@@ -354,6 +355,12 @@ class Sure(NamedTuple):
         side = "less" if 0 < own < less else "more" if own > more else ""
         return (f"{format_both(low)} to {format_both(high)} by drivers that fit as well within chance"
                 + f" (points with {side} delay than the result were tried, and fit worse)" * bool(side))
+
+
+def round_flow(one: Leaving) -> Leaving:
+    """Return a flow that leaves a jam, rounded for a file."""
+    simulated, half = (None if flow is None else round(flow, 1) for flow in (one.simulated, one.half))
+    return one._replace(measured=round(one.measured, 1), simulated=simulated, half=half)
 
 
 def format_both(both: Both) -> str:

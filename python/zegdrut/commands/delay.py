@@ -45,7 +45,7 @@ from ..figures.table import PER_LANE, Figure, FigureRow, choose, list_figures, s
 from ..figures.trips import Window, count_admitted_cars
 from ..program.errors import Fault, LabError, describe_error
 from ..program.scripts import read_script, check_same_road
-from ..reports.outputs import format_csv, prepare_folder
+from ..reports.outputs import format_csv, prepare_folder, with_title, write_lines
 from ..roads.clock import Clock, InvalidTime
 from ..roads.demand import Supply
 from ..roads.units import Units, count_things, format_fixed
@@ -138,20 +138,15 @@ def format_hours(steps: int, seconds: float) -> str:
     return f"{to_vehicle_hours(steps, seconds):.3f}"
 
 
-def with_title(lines: list[str]) -> list[str]:
-    """Return a table below its title."""
-    return [f"# {PER_LANE}", *lines]
-
-
 def write_table(folder: Path, name: str, lines: list[str]) -> None:
     """Write a table into the folder. Its first row says that it is per lane."""
-    (folder / name).write_text("".join(line + "\n" for line in with_title(lines)), encoding="utf-8")
+    write_lines(folder / name, with_title(PER_LANE, lines))
 
 
 def write_and_print(folder: Path, name: str, lines: list[str]) -> None:
     """Write a table into the folder, and print it."""
     write_table(folder, name, lines)
-    print("\n".join(with_title(lines)), end="\n\n")
+    print("\n".join(with_title(PER_LANE, lines)), end="\n\n")
 
 
 def print_notes(cost: Delay, notes: Sequence[str]) -> None:

@@ -34,12 +34,13 @@ import sys
 from pathlib import Path
 from typing import Iterable, Iterator, Sequence, cast
 
+from ..figures.table import PER_LANE
 from ..figures.trips import Trips, Window, count_admitted_cars
 from ..program.errors import LabError, describe_error
 from ..program.lab import RoadLab
 from ..program.scripts import Script
 from ..program.wire import CountReply, Fields, Reply, RowsReply
-from ..reports.outputs import prepare_folder
+from ..reports.outputs import prepare_folder, with_title, write_lines
 from ..roads.demand import Inlet, Supply, count_admitted, count_demand, find_rate
 from ..roads.freeway import (Fault, Figures, Road, Section, find_changes, describe_changes, list_free_cells, make_road, make_shapes, measure_chances,
                              postpone, widen_inlet, widen_inlets, with_lead)
@@ -215,18 +216,13 @@ def format_stretch(figures: Figures, road: Road, counted: list[CountReply], rows
     return lines
 
 
-def write_lines(folder: Path, name: str, lines: Lines) -> None:
-    """Write lines into a file of the folder."""
-    (folder / name).write_text("".join(line + "\n" for line in lines), encoding="utf-8")
-
-
 def run_and_write(folder: Path, name: str, replies_name: str, script: Script) -> list[Reply]:
     """Run a script. Write it and its replies, and return the replies."""
     report_progress(f"running {name}")
     replies = run_script(script.lines)
     files: tuple[tuple[str, Sequence[Fields]], ...] = (name, script.lines), (replies_name, replies)
     for file, values in files:
-        write_lines(folder, file, [json.dumps(value, separators=(",", ":")) for value in values])
+        write_lines(folder / file, [json.dumps(value, separators=(",", ":")) for value in values])
     return replies
 
 
@@ -245,9 +241,10 @@ def make_tables(figures: Figures, road: Road, demand: Lines, replies: list[Reply
 
 def write_tables(folder: Path, before_name: str, tables: dict[str, Lines]) -> None:
     """Write tables into the folder, and print them."""
-    for name, lines in tables.items():
-        write_lines(folder, f"{before_name}{name}.csv", lines)
-    print("\n\n".join("\n".join(lines) for lines in tables.values()), flush=True)
+    titled = {name: with_title(PER_LANE, lines) for name, lines in tables.items()}
+    for name, lines in titled.items():
+        write_lines(folder / f"{before_name}{name}.csv", lines)
+    print("\n\n".join("\n".join(lines) for lines in titled.values()), flush=True)
 
 
 def run_freeway(figures: Figures, folder: Path, then: Figures | None = None) -> None:
@@ -268,7 +265,7 @@ def run_freeway(figures: Figures, folder: Path, then: Figures | None = None) -> 
     units: dict[str, object] = {"metres": METRES, "seconds": 1, **({"origin": road.approach, "begin": road.lead} if road.approach else {}),
              **({name: value for name, value in (("clock", figures.begin), ("date", figures.date), ("timezone", figures.timezone)) if value}
                 if figures.begin else {})}
-    write_lines(folder, "units.json", [json.dumps(units)])
+    write_lines(folder / "units.json", [json.dumps(units)])
     script = with_commands(start, list_queries(road))
     write_tables(folder, "", make_tables(figures, road, demand, run_and_write(folder, "script.jsonl", "replies.jsonl", script)))
     if road.edits:

@@ -27,8 +27,7 @@ from ..figures.intervals import FEW_DAYS, warn_few_days
 from ..measurements.comparison import (Day, Hour, Model, compare_hours, compare_speeds, list_left_out, make_model, make_interval_records, compute_total_rmse, compute_share_below,
                           simulate_day, simulate_days, with_measured_demand, with_stations)
 from ..measurements.congestion import (CONGESTED, DEPARTURE, LONG_INTERVAL, Both, JudgedDay, compare_leaving, compare_time_lost, compare_travel_times,
-                                       describe_congested_demand, describe_jams, describe_leaving, describe_lost, judge, list_segments,
-                                       simulate_segments)
+                                       describe_congested_demand, describe_jams, describe_lost, judge, list_segments, simulate_segments)
 from ..measurements.measured import SPACE_MEAN, TIME_MEAN, Measured, put_on_road
 from ..measurements.stations import HEADERS, Counts, correct_counts, read_counts, read_stations
 from ..program.bars import Bar
@@ -36,9 +35,10 @@ from ..program.errors import Fault, LabError, describe_error
 from ..program.wire import Record
 from ..reports.outputs import format_csv, prepare_file, prepare_folder
 from ..reports.pictures import MEASURED, NO_DATA, SIMULATED, Chart, Field, Line, draw_field, draw_scale, stack_drawings, make_speed_field
+from ..roads.calibrated import Leaving, describe_calibration, describe_leaving
 from ..roads.demand import BeyondCapacity
 from ..roads.freeway import Figures, make_road, widen_inlet
-from ..roads.freeway_files import describe_calibration, write_road
+from ..roads.freeway_files import write_road
 from ..roads.units import HOUR, count_things, format_fixed
 from .freeway import FIGURES
 
@@ -236,6 +236,8 @@ class Congestion:
     """The delay of congested traffic by all cars, in vehicle hours per lane, or None without speeds."""
     delay_at_stations: Both | None
     """The delay by the cars that pass the stations."""
+    leaving: Sequence[Leaving]
+    """The flows that leave jams."""
 
     def __init__(self, model: Model, days: Sequence[JudgedDay], share: float) -> None:
         """Judge the days of a model. Traffic is congested below a share of the free speed."""
@@ -245,7 +247,7 @@ class Congestion:
         self.delay, self.delay_at_stations = (compare_time_lost(self._segments, days, share, at_stations) for at_stations in (False, True))
         self._times = compare_travel_times(model, self._segments, days)
         self._lost_cars = describe_lost(model, days)
-        self._leaving = compare_leaving(model.measured, days, share)
+        self.leaving = compare_leaving(model.measured, days, share)
 
     def format_table(self) -> list[str]:
         """Return the table of station intervals, speeds, delay and travel times."""
@@ -287,7 +289,7 @@ class Congestion:
 
     def judge_jams(self) -> list[str]:
         """Return a verdict on each jam, or say why no jam is judged, and compare the flows that leave jams."""
-        return [*describe_jams(self._found, self._measured), *describe_leaving(self._leaving)]
+        return [*describe_jams(self._found, self._measured), *describe_leaving(self.leaving)]
 
     def _describe_estimates(self) -> str:
         """Return what an estimate from station speeds leaves out."""

@@ -37,14 +37,15 @@ from ..figures.simulation import RoadRun, read_run, simulate_days
 from ..figures.table import PER_LANE, Figure, FigureRow, choose, compare as compare_figures, list_figures, measure_day
 from ..figures.trips import Window, entry_inlet, entry_step
 from ..program.bars import Bar
+from ..program.checks import is_number
 from ..program.errors import Fault, LabError, describe_error
 from ..program.lab import RoadLab
-from ..reports.outputs import format_csv, format_window, make_title, prepare_folder, write_csv
+from ..reports.outputs import format_window, make_title, prepare_folder, write_csv
 from ..roads.clock import InvalidTime
 from ..roads.control import PERIOD, RampMeter, run_control
 from ..roads.demand import Admission, AdmissionByFlow, BeyondCapacity, count_demand, measure_by_flow, find_rate
 from ..roads.freeway import Figures, Road, list_free_cells, make_all_roads, measure_chances, widen_inlet, with_lead
-from ..roads.freeway_files import is_number, check_names
+from ..roads.freeway_files import check_names
 from ..roads.road_scripts import Chances, make_plan, make_script
 from ..roads.units import format_fixed, to_steps
 from ..roads.waiting import Queues, ask_edits, find_arrivals, make_waiting_roads
@@ -335,10 +336,10 @@ def write_tables(folder: Path, site: Site, days: str, tables: dict[str, Table], 
     """Write tables. Their first lines have the road, the window, the date and the days. Print the first one with the sentences `said`, if they
     are given."""
     clock, steps = site.figures.clock, site.road.steps - site.road.lead
-    for name, rows in tables.items():
-        write_csv(folder / f"{name}-{site.name}-{format_window(clock, steps)}.csv", f"{make_title(site.name, clock, steps)}, {PER_LANE}, {days}", rows)
+    title = f"{make_title(site.name, clock, steps)}, {PER_LANE}, {days}"
+    first, *_ = [write_csv(folder / f"{name}-{site.name}-{format_window(clock, steps)}.csv", title, rows) for name, rows in tables.items()]
     if said is not None:
-        print("\n".join([*format_csv(next(iter(tables.values()))), *said]))
+        print("\n".join([*first, *said]))
 
 
 def read_arguments(words: Sequence[str] | None) -> argparse.Namespace:

@@ -36,11 +36,12 @@ from ..reports.pictures import INLETS, Chart, Line
 from ..reports.report import (MOST_SIDES, PERIOD, RangeRow, Side, make_flow_series, make_range_records, make_ranges, make_records, make_speed_series,
                               make_tables, run_sides)
 from ..reports.report_page import Contents, describe_approach, describe_capacities, draw_demands, format_page, make_list_html
+from ..roads.calibrated import Alternative, describe_calibration
 from ..roads.capacity import LIMIT as WORKS_LIMIT
 from ..roads.clock import Clock
 from ..roads.demand import BeyondCapacity, find_rate
 from ..roads.freeway import Figures, Road, make_all_roads, measure_chances, to_rates, warm_up_minutes, widen_inlets, with_warm_up
-from ..roads.freeway_files import Alternative, Demand, describe_calibration
+from ..roads.freeway_files import Demand
 from ..roads.road_scripts import make_script
 from ..roads.units import HOUR, KMH, count_things, format_distance, to_steps
 from ..roads.waiting import make_waiting_roads
@@ -290,6 +291,12 @@ def list_works(request: Request) -> list[str]:
     return [*others, *(f"{request.names[-1]}: {one}" if others else one for one in describe_works(request.figures))]
 
 
+def list_notes(names: Sequence[str], roads: Sequence[Road]) -> list[str]:
+    """Return what was rounded to the model: first what was rounded on all roads, then the rest after the name of its road."""
+    common = [note for note in roads[0].notes if all(note in road.notes for road in roads)]
+    return [*common, *(f"{name}: {note}" for name, road in zip(names, roads) for note in road.notes if note not in common)]
+
+
 # The page
 
 def make_lines_html(lines: Sequence[str]) -> str:
@@ -327,7 +334,7 @@ def make_page(given: argparse.Namespace, request: Request, roads: Sequence[Road]
     return format_page(Contents(
         title=title, facts=[f"{format_distance(road.to_km(road.length))} km, one lane, {drivers}", *describe_approach(road.units), *describe_demands(request)],
         demand=make_demand_chart(list_demands(request)), works=list_works(request),
-        notes=road.notes, clock=clock, window=window, length=road.length, detectors=road.detectors, sides=sides, days=days,
+        notes=list_notes(request.names, roads), clock=clock, window=window, length=road.length, detectors=road.detectors, sides=sides, days=days,
         rows=tables[0], others=tables[1:], seed=figures.seed, closed=closed, more="" if model is None else make_counts_html(given, request, model),
         remarks=[*describe_capacities([one.capacity for side in (*request.others, figures) for one in side.sections if one.capacity is not None]),
                  *OTHER_DAYS[:bool(request.warm)], *explain_outflow(road.drivers, [list(map(Waits.of, runs)) for runs in days])], ranges=ranges,

@@ -3,8 +3,8 @@
     found = calibrate("I-10", [(figures, measured)], Bounds(), Search())
     found.limit, found.best.slowing, found.best.start, found.best.factor
 
-The limits of the model are multiples of 27 km/h. Those just below and above the measured free speed and the one of the road are each
-searched, and the one with the smallest error is taken. With several measured days the error of a point is the mean over the days.
+The limits of the model are multiples of 27 km/h. Those just below (by 10 km/h at most) and above the measured free speed and the one of
+the road are each searched, and the one with the smallest error is taken. With several measured days the error of a point is the mean over the days.
 
 The total number of cars is proportional to the demand factor. After each round the factor is corrected by the ratio of measured to
 simulated totals of the best points. The two chances are found by the cross-entropy method (Rubinstein, Methodol. Comput. Appl. Probab. 1
@@ -198,14 +198,15 @@ def list_multiples(low: float, high: float) -> list[float]:
 
 
 def list_limits(figures: Figures, measured: Sequence[Measured], bounds: Bounds) -> list[float]:
-    """Return the limits to search in km/h: those within the bounds, or by default those just below and above the measured free speed,
-    and the one of the road."""
+    """Return the limits to search in km/h: those within the bounds, or by default the one just above the measured free speed, the one just below it
+    if free traffic can be so slow, and the one of the road."""
     if bounds.limit is not None:
         return list_multiples(*bounds.limit)
     free = max((find_free_speed(one) or 0.0 for day in measured for one in day.main[1:]), default=0.0)
     if not free:
         return [figures.limit]
-    around = {max(math.floor(free / KMH), 1), math.ceil(free / KMH), to_limit(figures.limit)}
+    below, above = max(math.floor(free / KMH), 1), min(math.ceil(free / KMH), MOST_LIMIT)
+    around = {above, to_limit(figures.limit)} | ({below} if free - below * KMH <= FREE else set())
     return [cells * KMH for cells in sorted(around) if cells <= MOST_LIMIT]
 
 

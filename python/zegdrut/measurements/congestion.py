@@ -15,7 +15,8 @@ half of the days with a car. Measured speeds are usually time means, which are n
 counts are congested, the space mean is, too, and a measured jam can be judged by the simulated space mean. (The time mean would not do:
 in the model a car passes a detector at 27 km/h or more, and most have left the jam, so that a detector in a jam often shows twice a real
 speed.) Where the counts are not congested, the space mean may be. So for a simulated jam that the counts do not have, means of the same
-kind are compared: the counts rule it out only if they fall less than half as far below the free speed as the simulated speeds. Errors of
+kind are compared: the counts rule it out only if they fall less than half as far below the free speed as the simulated speeds, on average over
+the jam. A single station says less: on some days a jam of the same drivers does not reach it. So its speeds are given, but not judged. Errors of
 speeds also compare means of the same kind.
 
 The flow that leaves a jam decides how long a queue lasts. The head of a jam is between two neighbouring stations if the first one is in a jam and
@@ -40,6 +41,7 @@ from typing import Callable, NamedTuple, Sequence
 from ..figures.intervals import average_known
 from ..figures.simulation import simulate_days
 from ..program.rows import Sums
+from ..roads.calibrated import Leaving
 from ..roads.clock import Clock
 from ..roads.demand import Supply, count_demand
 from ..roads.units import CELLS_A_KM, HOUR, KMH, count_things
@@ -58,9 +60,6 @@ AS_DEEP = 0.5
 """The counts rule out a simulated jam if they fall by less than this share of the simulated fall below the free speed."""
 FAR, MOST_SHARE = 0.25, 0.95
 """A jam is looked for up to so far above the share of `--congested`, and the greatest share."""
-LEAVING_ERROR = 0.05
-"""Flows that leave a jam agree if they differ by less. Counts are right to about this. In the shortest jam some 375 cars leave on a lane. If their
-headways vary by half of the mean, this number varies by 0.5 / sqrt(375) = 2.6 % by chance, and 5 % are about twice that."""
 SLOWEST = 1.0
 """Lower speeds in km/h count as this one."""
 DEPARTURE = 60
@@ -119,8 +118,8 @@ class Judgement:
     free: SpeedOff
     interval: int
     """Seconds."""
-    speeds: Sequence[Sequence[float | None]] = ()
-    """The simulated mean speeds in km/h, of the kind of the measured ones."""
+    by_day: Sequence[Sequence[Sequence[float | None]]] = ()
+    """For each simulated day the speeds at the stations in km/h, of the kind of the measured ones."""
     share: float = CONGESTED
 
     def count(self) -> Intervals:
@@ -140,13 +139,14 @@ def judge(measured: Measured, days: Sequence[JudgedDay], share: float = CONGESTE
     drawn = find_simulated_states(measured, days, share)
     off: dict[bool, list[float]] = {True: [], False: []}
     passed = [day.passed for day in days]
-    speeds = [[compute_speed(passed, index, place) for place in range(measured.intervals)] for index in range(len(measured.main) - 1)]
     for index, series in enumerate(measured.main[1:]):
         bound = share * (find_free_speed(series) or 0.0)
-        for speed, mean in zip(series.speeds, speeds[index]):
+        for place, speed in enumerate(series.speeds):
+            mean = compute_speed(passed, index, place)
             if speed is not None and mean is not None:
                 off[speed < bound].append(mean - speed)
-    return Judgement(find_states(measured, share), drawn, summarize(off[True]), summarize(off[False]), measured.interval, speeds, share)
+    return Judgement(find_states(measured, share), drawn, summarize(off[True]), summarize(off[False]), measured.interval,
+                     [[[one.speed for one in line] for line in day] for day in passed], share)
 
 
 def find_states(measured: Measured, share: float) -> States:
@@ -230,22 +230,48 @@ def describe_jams(found: Judgement, measured: Measured) -> list[str]:
         if not known:
             sentences.append(f"{name}, where no speed was measured")
         elif sum(known) < LEAST * len(known):
-            sentences.append(f"{name} {describe_speeds_of_jam(jam, found, measured)}")
+            sentences.append(f"{name} {judge_speeds(jam, found, measured)}")
         elif not told.intersection(jam.places):
             sentences.append(f"{name}: the counts are congested in {sum(known)} of its {count_things(len(known), 'station interval')}, but never for "
                              f"{SHORTEST_JAM // 60} minutes in a row")
     return [*(sentences or [describe_free_traffic(found, clock, names)]), *([] if jams else suggest_share(found, measured))]
 
 
-def describe_speeds_of_jam(jam: Jam, found: Judgement, measured: Measured) -> str:
-    """Return whether the counts rule out a simulated jam in which they are not congested. A station that no simulated car passes has the speed 0."""
-    pairs = [(find_free_speed(series) or 0.0, speed, found.speeds[index][place] or 0.0) for index, place in jam.places
-             if (speed := (series := measured.main[index + 1]).speeds[place]) is not None]
-    free, known, drawn = (math.fsum(values) / len(pairs) for values in zip(*pairs))
-    speeds = f"{measured.mean} speeds there are {known:.0f} km/h measured and {drawn:.0f} km/h simulated, with a free speed of {free:.0f} km/h"
-    if free - known < AS_DEEP * (free - drawn):
-        return f"that was not measured: {speeds}"
-    return f"that the counts do not rule out: {speeds}" + ("" if measured.mean == SPACE_MEAN else ". In the model such speeds hardly show a jam")
+class MeanSpeeds(NamedTuple):
+    """Means over some station intervals in km/h: of the free speeds, of the measured speeds, and of those of each simulated day."""
+
+    free: float
+    measured: float
+    by_day: list[float]
+
+    @property
+    def is_less_deep(self) -> bool:
+        """Return whether the measured speeds fall by less than AS_DEEP of the simulated fall."""
+        return self.free - self.measured < AS_DEEP * (self.free - fmean(self.by_day))
+
+    def describe(self) -> str:
+        """Return the speeds, with the slowest and the fastest simulated day."""
+        days = f" ({min(self.by_day):.0f} to {max(self.by_day):.0f} on single days)" if len(self.by_day) > 1 else ""
+        return f"{self.measured:.0f} km/h measured and {fmean(self.by_day):.0f} km/h simulated{days}"
+
+
+def average_speeds(places: Sequence[tuple[int, int]], found: Judgement, measured: Measured) -> MeanSpeeds:
+    """Return the mean speeds over station intervals with a measured speed. A station that no simulated car passes has the speed 0."""
+    speeds = [(find_free_speed(measured.main[index + 1]) or 0.0, measured.main[index + 1].speeds[place] or 0.0) for index, place in places]
+    free, known = (fmean(values) for values in zip(*speeds))
+    return MeanSpeeds(free, known, [fmean(day[index][place] or 0.0 for index, place in places) for day in found.by_day])
+
+
+def judge_speeds(jam: Jam, found: Judgement, measured: Measured) -> str:
+    """Return whether the counts rule out a simulated jam in which they are not congested, with the speeds of each station."""
+    places = [(index, place) for index, place in jam.places if measured.main[index + 1].speeds[place] is not None]
+    speeds, stations = average_speeds(places, found, measured), sorted({index for index, _ in places})
+    by_station = [f"{average_speeds([one for one in places if one[0] == index], found, measured).describe()} at station "
+                  f"{measured.main[index + 1].station.name}" for index in stations]
+    said = f"{measured.mean} speeds are {', '.join(by_station)}, with a free speed of {speeds.free:.0f} km/h"
+    if speeds.is_less_deep:
+        return f"that was not measured: {said}"
+    return f"that the counts do not rule out: {said}" + ("" if measured.mean == SPACE_MEAN else ". In the model such speeds hardly show a jam")
 
 
 def suggest_share(found: Judgement, measured: Measured) -> list[str]:
@@ -300,17 +326,6 @@ def name_jam(head: str, jam: Jam, clock: Clock, names: Sequence[str], interval: 
 
 # The flow that leaves a jam
 
-class Leaving(NamedTuple):
-    """The flow that leaves jams whose head is between a station and the next one, in cars per hour and lane: measured, and the mean of the
-    simulated days with such a jam (None without one), with half its 95 % interval."""
-
-    station: str
-    following: str
-    measured: float
-    simulated: float | None
-    half: float | None
-
-
 def compare_leaving(measured: Measured, days: Sequence[JudgedDay], share: float = CONGESTED) -> list[Leaving]:
     """Compare the flow that leaves a jam, for each two stations between which a measured jam has its head."""
     found, interval = [], measured.interval
@@ -331,22 +346,6 @@ def compute_leaving(states: States, index: int, cars: Sequence[float | None], in
     left = [count for begin, end in find_runs(states[index], least) for place in range(begin, end)
             if states[index + 1][place] is False and (count := cars[place]) is not None]
     return math.fsum(left) / len(left) * HOUR / interval if len(left) >= least else None
-
-
-def describe_leaving(found: Sequence[Leaving]) -> list[str]:
-    """Return a sentence for each flow that leaves a jam, with what follows for the queues of the simulated road."""
-    return [f"flow that leaves the jam at station {one.station}, counted at station {one.following}: {one.measured:,.0f} cars/h per lane measured, "
-            f"{compare_queues(one)}" for one in found]
-
-
-def compare_queues(one: Leaving) -> str:
-    """Return the simulated flow that leaves a jam, and what follows for queues."""
-    if one.simulated is None:
-        return "and no simulated day has a jam there"
-    ratio = one.simulated / one.measured
-    verdict = (f"they agree within {100 * LEAVING_ERROR:.0f} %" if abs(ratio - 1) <= LEAVING_ERROR else
-               "queues of this road last too " + ("long, so works cost too much on it" if ratio < 1 else "short, so works cost too little on it"))
-    return f"{one.simulated:,.0f}{'' if one.half is None else f' ± {one.half:,.0f}'} simulated: {verdict}"
 
 
 # Lost cars

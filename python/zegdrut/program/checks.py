@@ -5,7 +5,7 @@ import json
 import math
 import operator
 from collections.abc import Iterable
-from typing import SupportsIndex
+from typing import SupportsIndex, TypeGuard
 
 from .wire import Fields
 
@@ -23,6 +23,11 @@ def check_whole(name: str, value: object) -> int:
     if number < 0:
         raise ValueError(f"{name}: {number} is negative: it must be 0 or more")
     return number
+
+
+def is_number(value: object) -> TypeGuard[float]:
+    """Return whether a JSON value is a finite number."""
+    return isinstance(value, (int, float)) and not isinstance(value, bool) and math.isfinite(value)
 
 
 def check_text(name: str, value: object) -> str:

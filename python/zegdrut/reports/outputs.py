@@ -47,9 +47,21 @@ def format_csv(rows: Sequence[Sequence[object]]) -> list[str]:
     return text.getvalue().splitlines()
 
 
-def write_csv(path: Path, title: str, rows: Sequence[Sequence[object]]) -> None:
-    """Write rows as a CSV file. Its first line is the title."""
-    path.write_text("".join(f"{line}\n" for line in (f"# {title}", *format_csv(rows))), encoding="utf-8")
+def write_lines(path: Path, lines: Sequence[str]) -> None:
+    """Write lines as a file."""
+    path.write_text("".join(f"{line}\n" for line in lines), encoding="utf-8")
+
+
+def write_csv(path: Path, title: str, rows: Sequence[Sequence[object]]) -> list[str]:
+    """Write rows as a CSV file. Its first line is the title. Return the lines."""
+    lines = with_title(title, format_csv(rows))
+    write_lines(path, lines)
+    return lines
+
+
+def with_title(title: str, lines: Sequence[str]) -> list[str]:
+    """Return the lines of a table below its title."""
+    return [f"# {title}", *lines]
 
 
 def make_title(road: str, clock: Clock, steps: int) -> str:

@@ -28,6 +28,7 @@ NO_BANDS = f'<p class="note">With fewer than {FEW_DAYS} days the charts have no 
 MISSING = ("more than one lane: there is no overtaking", "off-ramps, junctions and trucks: all cars behave "
            "as their zone says", "a road before its inlets: demand that finds no place is lost, unless the table says that it waits",
            "speeds between whole cells per second, which are 27 km/h apart (a cell is 7.5 m)")
+ALL_LANES = f"All figures are {PER_LANE}: for the whole road multiply cars, flows and vehicle hours by the number of lanes."
 STYLE = """
 @page { size: A4; margin: 12mm }
 body { font: 10.5pt/1.35 sans-serif; color: #111; max-width: 1000px; margin: 1.5em auto; padding: 0 1em }
@@ -110,7 +111,7 @@ def make_table_html(sides: Sequence[Side], tables: Sequence[Sequence[FigureRow]]
             f"are known{': the table of calibration shows that' * has_ranges}. "
             f"“{CHANCE}”: the interval of the difference contains 0; a figure that does not differ on any day has no remark. A speed is the mean of the days' time-mean speeds." if days > 1
             else "One day has no interval.")
-    words = [escape_text(one) for one in [*sorted({one for rows in tables for row in rows for one in row.words}), *remarks]]
+    words = [escape_text(one) for one in [ALL_LANES, *sorted({one for rows in tables for row in rows for one in row.words}), *remarks]]
     head = [f"{describe_mean(days)}, {PER_LANE}", *(cell for one in heads for cell in one), *([] if has_own_table else [cell for one in differences for cell in one])]
     second = make_grid_html([f"difference from {sides[0].name}, {PER_LANE}", *(cell for one in differences for cell in one)], others) if has_own_table else ""
     return f'{make_grid_html(head, lines)}{second}<p class="note">{" ".join([said, *words])}</p>'

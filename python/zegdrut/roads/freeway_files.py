@@ -5,13 +5,14 @@ import csv
 import dataclasses
 import datetime
 import json
-import math
 from dataclasses import dataclass, field
 from pathlib import Path
-from typing import NamedTuple, Sequence, TypeGuard, TypeVar, Union, cast
+from typing import NamedTuple, Sequence, TypeVar, Union, cast
 
+from ..program.checks import is_number
 from ..program.errors import Fault
 from ..program.wire import Json
+from .calibrated import Calibrated, read_calibration, write_calibration
 from .clock import DAY, InvalidTime, Clock
 from .units import to_steps
 
@@ -39,25 +40,6 @@ class Stalled(NamedTuple):
     at: float
     begin: float
     end: float
-
-
-class Alternative(NamedTuple):
-    """Drivers that fit measured counts as well as those of the file, within chance: their slowing chance and slow-to-start chance, their
-    demand divided by that of the file, and the delay that they cause on the calibrated day in vehicle hours per lane."""
-
-    slowing: float
-    start: float
-    factor: float
-    delay: float
-
-
-class Calibrated(NamedTuple):
-    """The field that `calibrate` writes into a file: the delay that the drivers of the file cause on the calibrated day in vehicle hours per
-    lane, and of the drivers that fit as well those with the least and the most delay."""
-
-    delay: float
-    less: Alternative
-    more: Alternative
 
 
 Demand = Union[float, "list[tuple[float, float]]"]
@@ -331,37 +313,12 @@ def write_road(path: Path, source: Path, figures: Figures) -> None:
         **json.loads(source.read_text(encoding="utf-8")), "limit": figures.limit, "main": write_demand(figures.main), "slowing": figures.slowing,
         "ramps": [[km, write_demand(demand)] for km, demand in figures.ramps], "detectors": [*figures.detectors]}
     found.pop("calibration", None)  # (that of other drivers)
-    sure: Json = None if figures.calibration is None else {
-        "delay": figures.calibration.delay, "less": figures.calibration.less._asdict(), "more": figures.calibration.more._asdict()}
+    sure = None if figures.calibration is None else write_calibration(figures.calibration)
     more: tuple[tuple[str, Json], ...] = (("start", figures.start), ("entry", figures.entry), ("date", figures.date), ("calibration", sure))
     found.update({name: value for name, value in more if value is not None})
     path.parent.mkdir(parents=True, exist_ok=True)
     path.write_text("{" + ",\n ".join(f"{json.dumps(name)}: {json.dumps(value, ensure_ascii=False)}" for name, value in found.items())
                     + "}\n", encoding="utf-8")
-
-
-def read_calibration(value: Json) -> Calibrated | None:
-    """Return what `calibrate` wrote, or None if a value is something else."""
-    given = value if isinstance(value, dict) and set(value) == set(Calibrated._fields) else {}
-    both = [one for one in (given.get("less"), given.get("more")) if isinstance(one, dict) and set(one) == set(Alternative._fields)]
-    numbers = [given.get("delay"), *(number for one in both for number in one.values())]
-    if len(both) < 2 or not all(is_number(number) and number >= 0 for number in numbers):
-        return None
-    less, more = (Alternative(**cast("dict[str, float]", one)) for one in both)
-    return Calibrated(cast(float, given["delay"]), less, more)
-
-
-def describe_calibration(calibration: Calibrated | None, days: int) -> list[str]:
-    """Return a sentence that says how sure the drivers of a calibrated road are, beside figures of some days: only those of several days have ±."""
-    return [] if calibration is None else [
-        f"calibration: {format_range(calibration)} vehicle hours of delay per lane on the calibrated day by drivers that fit its counts equally well "
-        f"within chance, and {calibration.delay:.1f} by those of the file{': ± does not include this' * (days > 1)}"]
-
-
-def format_range(calibration: Calibrated) -> str:
-    """Return the delays of drivers that fit equally well, from the least to the most."""
-    low, *_, high = sorted((calibration.delay, calibration.less.delay, calibration.more.delay))
-    return f"{low:.1f} to {high:.1f}"
 
 
 def write_time(clock: Clock, step: int) -> Json:
@@ -372,11 +329,6 @@ def write_time(clock: Clock, step: int) -> Json:
     except InvalidTime:
         is_unique = False
     return text if is_unique else step / 60
-
-
-def is_number(value: object) -> TypeGuard[float]:
-    """Return whether a JSON value is a finite number."""
-    return isinstance(value, (int, float)) and not isinstance(value, bool) and math.isfinite(value)
 
 
 def check_names(given: object, known: list[str], where: str) -> None:
