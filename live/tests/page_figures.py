@@ -135,7 +135,7 @@ class OneFreeway(BrowserCase):
         self.assertEqual(tab.script("return framesShown().map(({kind}) => kind)"), ["limit"])
         for tool in ("capacity", "inflow"):
             tab.tool(tool)
-            self.assertIn("cars/h per lane", tab.text("values"))
+            self.assertIn("cars/h/lane", tab.text("values"))
         tab.choose("inlet", "1")
         tab.type_and_apply(demand="447.69", timeFrom="7:05", timeTo="7:10")
         self.assertEqual(tab.lines("own"), ["Demand 448 cars/h, at 0.45 km, 07:05–07:10 private"])
@@ -308,6 +308,8 @@ class OneFreeway(BrowserCase):
     def test_flow_and_speed_by_time_are_drawn_and_read(self) -> None:
         tab, = self.open(FREEWAY)
         tab.run_an_hour()
+        tab.until(lambda: tab.text("figuresNote").endswith(
+            "All figures are per lane: for the whole road multiply cars, flows and vehicle hours by the number of lanes."), "what the figures are")
         tab.tool("block")
         tab.type_and_apply(kmFrom="3", kmTo="3.15", timeFrom="0:20", timeTo="0:30")
         tab.script("$('series').open = true")
@@ -334,7 +336,6 @@ class OneFreeway(BrowserCase):
             CanvasRenderingContext2D.prototype.fillText = fill;
             return texts.filter((text) => /[a-z]/.test(text));"""), ["cars/h per lane", "km/h", "s"])
         self.assertEqual(tab.script("return $('flowChart').ariaLabel"), "Flow per lane by time")
-        self.assertIn("All figures are per lane: for the whole road multiply cars, flows and vehicle hours by the number of lanes.", tab.text("figuresNote"))
         self.assertRegex(tab.save("Travel times", "travel-times.csv").read_text(encoding="utf-8"), "^# travel times of [^\n]*, per lane\n")
         drawn = tab.script("""
             const {width, height} = $("speedChart");
