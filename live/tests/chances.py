@@ -140,7 +140,10 @@ class Days(Case):
         entries = self.here.entries()
         self.over(2)
         preview, own = [await soon(self.here.ask(self.ada, "days", of=of, **SPAN)) for of in (["before", "after"], mine(self.ada))]
-        self.assertEqual(json.dumps(preview), json.dumps(own).replace("(mine)", "(after)"))  # what their words call the second road
+        words = json.dumps(own)
+        for name, other in (("(mine)", "(after)"), ("the road mine", "the road after"), ("the road shared", "the road before")):
+            words = words.replace(name, other)
+        self.assertEqual(json.dumps(preview), words)
         self.assertEqual(self.here.entries(), entries)
 
     async def test_a_road_with_fixed_random_numbers_has_only_one_day(self) -> None:
