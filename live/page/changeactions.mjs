@@ -272,16 +272,17 @@ async function refreshUntilDone(whose, refresh) {
 }
 
 /** Ask for the new changes of a road, piece by piece, or for all if the server has restarted its
- * list. Ignore a piece if another answer has brought a newer version. Return whether all arrived.
+ * list. Ignore a piece if another answer has brought a newer version, or if the whole list is
+ * wanted again meanwhile. Return whether all arrived.
  * @param {RoadName} whose
  */
 async function askLayers(whose) {
   const [layers, {at}] = [layersOf(whose), roadOf(whose)];
   for (let more = true; more;) {
-    const from = layers.next;
+    const {next: from, restarts} = layers;
     const said = await ask({layers: {at, from}});
     if (!said || "refused" in said) return false;
-    if (layers.next !== from) continue;
+    if (layers.next !== from || layers.restarts !== restarts) continue;
     if (said.since === 0) {
       layers.changes.clear();
       if (from !== 0) roadOf(whose).invalidate(0);

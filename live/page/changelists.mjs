@@ -12,7 +12,7 @@ import {setOpen, showChange} from "./navigation.mjs";
 import * as messages from "./messages.mjs";
 import {keyOf} from "./stamps.mjs";
 import {need, layersOf, now, store, watch} from "./store.mjs";
-import {kmText, plural, whole} from "./units.mjs";
+import {PER_LANE, kmText, plural, whole} from "./units.mjs";
 
 /** @typedef {import("./elements.mjs").Item} Item */
 /** @typedef {import("./changetexts.mjs").Listed} Listed */
@@ -125,7 +125,7 @@ function showFileDemand() {
   const plan = need("plan");
   const heads = plan.inlets.map(([cell]) => headCell(`at ${kmText(plan, cell)} km`));
   $("fileDemandTable").replaceChildren(
-    element("caption", "Cars per hour that want to enter"),
+    element("caption", `Cars per hour ${PER_LANE} that want to enter`),
     element("thead", "", {}, row(headCell("from"), ...heads)),
     element("tbody", "", {}, ...lines.map(({step, demands}) =>
       row(headCell(store.day.timeText(step), "row"),

@@ -5,6 +5,7 @@ import {assign} from "./assign.mjs";
 import {askDays, comparedNow, daysAsked, daysShown, dropDays, dropOldDays, stopDays} from "./comparison.mjs";
 import {$, button, childrenOf, element, findElement} from "./elements.mjs";
 import {figureTable, wordsOf} from "./figuretable.mjs";
+import {ALL_LANES} from "./messages.mjs";
 import {store, watch} from "./store.mjs";
 
 /** @typedef {import("./types.mjs").DaysFigures} DaysFigures */
@@ -16,9 +17,9 @@ const daysText = ({days, stopped}) =>
 const READ_MEANS = "each day has its own drivers, the same on all roads. \u00b1 is half the width "
   + "of the 95 % interval. If the interval of a difference contains 0, the difference may be chance.";
 /** @param {DaysFigures} said */
-const readText = ({days, figures}) => [
+const readText = ({days, figures, warnings}) => [
   days > 1 ? `Means of ${days} days: ${READ_MEANS}` : "One day alone cannot show what is due to chance.",
-  wordsOf(figures)].join(" ").trim();
+  ...warnings.map((text) => `${text}.`), ALL_LANES, wordsOf(figures)].join(" ").trim();
 /** @param {DaysFigures} said */
 const captionText = (said) =>
   `${daysText(said)}, ${store.day.timeText(said.from)} to ${store.day.timeText(said.to)}`;

@@ -82,7 +82,7 @@ function showFigures() {
   $("figures").className = table.className;
   $("figures").replaceChildren(...table.children);
   $("figuresNote").textContent = !exact && store.clock.rate ? messages.PAUSE_FOR_FIGURES
-    : wordsOf(rows) || messages.READ_FIGURES;
+    : wordsOf(rows) || `${messages.READ_FIGURES} ${messages.ALL_LANES}`;
   showWarnings(exact);
   if (store.isOpen.asTable) showSpeeds(period);
 }

@@ -5,8 +5,8 @@ import {faultOfValue} from "./area.mjs";
 import {OF_ONE, OF_ZONES, cellsOf, objectsNearest} from "./geometry.mjs";
 import * as messages from "./messages.mjs";
 import {layersOf, need, now, store} from "./store.mjs";
-import {ALWAYS, LAST_STEP, cellOfKm, chanceOfDemand, demandOfChance, kmOf, kmText, rangeText, roundedKm,
-        whole} from "./units.mjs";
+import {ALWAYS, LAST_STEP, PER_LANE, cellOfKm, chanceOfDemand, demandOfChance, kmOf, kmText, rangeText,
+        roundedKm, whole} from "./units.mjs";
 
 /** @typedef {import("./store.mjs").FormValues} FormValues */
 /** @typedef {import("./types.mjs").Kind} Kind */
@@ -58,7 +58,7 @@ export function demandText() {
   if (Number.isNaN(value)) return faultOfValue("inflow", inlet, from);
   const most = layersOf("mine").curveAt(inlet, from)?.capacity ?? NaN;
   return `inflow chance ${(value / ALWAYS).toFixed(3)}; this inlet then admits up to `
-    + `${whole(most)} cars/h`;
+    + `${whole(most)} cars/h ${PER_LANE}`;
 }
 
 /** Return what is wrong with a typed time.

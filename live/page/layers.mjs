@@ -67,6 +67,7 @@ export class Layers {
     this.findCurve = findCurve;
     this.changes = changes;
     this.next = 0;              // the version of the list that the page has
+    this.restarts = 0;          // how often the whole list was wanted again
     /** @type {Stamp | null} */
     this.undo = null;           // what Undo would undo
     /** @type {Stamp | null} */
@@ -86,6 +87,12 @@ export class Layers {
     }
     [this.next, this.undo, this.redo, this.blocked] = [next, undo, redo, blocked];
     this.frames = framesOf(this.changes.values());
+  }
+
+  /** Forget which version the page has, so that the whole list is asked for again. */
+  restart() {
+    this.next = 0;
+    this.restarts += 1;
   }
 
   /** Return another road: this one, with these changes added or replaced.

@@ -2,7 +2,7 @@
 // is, where, and what to do. What changes are called is in shapetexts.mjs.
 
 import {listText} from "./roadnames.mjs";
-import {plural, whole} from "./units.mjs";
+import {PER_LANE, plural, whole} from "./units.mjs";
 
 /** Return one of two words: the first if a count is 1.
  * @param {number} count
@@ -98,7 +98,7 @@ export const TOO_FEW_ZONES =
 export const END_BEFORE_BEGIN = "The end must be later than the beginning.";
 export const CHANCE_OUT_OF_RANGE = "The chance is out of range: 0 to 100 %.";
 export const CAPACITY_OUT_OF_RANGE =
-  "The capacity must be a number of cars per hour above 0. A total closure is a change of its own: Close.";
+  "The capacity must be a number of cars per hour per lane above 0. A total closure is a change of its own: Close.";
 export const MEASURED_WHEN_PUT = "Once you put it, the server measures which slowing leaves it.";
 export const WAITS_FOR_CAPACITY = "Waits until the server has measured which slowing leaves this capacity.";
 
@@ -138,7 +138,7 @@ export const tooLong = (most) => `This is too long: one closure is at most ${mos
  * @param {boolean} isPassed
  */
 export const demandOutOfRange = (capacity, limit, slowing, isPassed) =>
-  `The demand is out of range: this inlet admits 0 to ${whole(capacity)} cars per hour (limit `
+  `The demand is out of range: this inlet admits 0 to ${whole(capacity)} cars per hour per lane (limit `
   + `${limit}, slowing ${slowing})${isPassed ? ", on top of the cars that already pass it" : ""}.`;
 
 /** @param {string} note     of the change */
@@ -226,6 +226,8 @@ export const SAVING = "Saving \u2026";
 /** @param {number} days */
 export const makingReport = (days) => `Making the report: all roads are simulated over ${plural(days, "day")} \u2026`;
 export const READ_FIGURES = "Delay: of cars that both roads have.";
+export const ALL_LANES =
+  `All figures are ${PER_LANE}: for the whole road multiply cars, flows and vehicle hours by the number of lanes.`;
 export const PAUSE_FOR_FIGURES =
   "Lost demand, delay and travel times are counted car by car: pause the clock to see them.";
 

@@ -204,7 +204,7 @@ async function saveTravel() {
   }
   const said = await askUntilFree({figures: {at, of, from, to}});
   if (!said || "refused" in said) return;
-  saveLines(`travel times of ${comparedText(from, to)}`, tableOfTravel(need("plan"), roads, said, store.day),
+  saveLines(`travel times of ${comparedText(from, to)}, ${PER_LANE}`, tableOfTravel(need("plan"), roads, said, store.day),
     "travel-times.csv", comparedFile(), [from, to]);
 }
 
@@ -300,7 +300,7 @@ async function saveReport() {
 async function saveChanges() {
   const roads = isBeside() ? store.chosen : [roadShown() === "shared" ? BOTH[1] : BOTH[0]];
   await refreshFixed();
-  const title = `changes of ${roadsText(roads, need("me").name)}${fileAndDate()}, up to ${store.day.timeText(now())}`;
+  const title = `changes of ${roadsText(roads, need("me").name)}${fileAndDate()}, up to ${store.day.timeText(now())}, ${PER_LANE}`;
   saveLines(title, tableOfChanges(roads, roads.map(layersOf)), "changes.csv", roads.map((road) => fileRoad(roadOf(road).at)).join("-"),
     [0, now()]);
 }

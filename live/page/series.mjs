@@ -7,7 +7,7 @@ import {askSeries, chooseEnd, chooseSite, exactOf, readPoint} from "./loader.mjs
 import {setOpen} from "./navigation.mjs";
 import {roadText} from "./roadnames.mjs";
 import {figureRoads, need, store, watch} from "./store.mjs";
-import {MINUTE, kmText, whole} from "./units.mjs";
+import {MINUTE, PER_LANE, kmText, whole} from "./units.mjs";
 
 /** @typedef {import("./types.mjs").DetectorFigures} DetectorFigures */
 /** @typedef {import("./types.mjs").Figures} Figures */
@@ -42,7 +42,7 @@ function detectorCharts() {
   const sidesOf = (/** @type {(one: DetectorFigures) => number | null} */ of) =>
     flows.map((spans) => spans.map((span) => of(span[site])));
   return [
-    {id: "flowChart", unit: "cars/h", smallestTop: 500, from, to, each, sides: sidesOf(({flow}) => flow)},
+    {id: "flowChart", unit: `cars/h ${PER_LANE}`, smallestTop: 500, from, to, each, sides: sidesOf(({flow}) => flow)},
     {id: "speedChart", unit: "km/h", smallestTop: 135, from, to, each, sides: sidesOf(({speed}) => speed)}];
 }
 

@@ -153,7 +153,7 @@ async function welcome(said) {
   notify("me");
   for (const whose of BOTH) {
     roadOf(whose).invalidate(0);
-    layersOf(whose).next = 0;
+    layersOf(whose).restart();
   }
   restorePending();
   const sent = [...store.pending.keys()].map(send);

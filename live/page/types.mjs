@@ -156,9 +156,9 @@
  * @typedef {{figure: FigureHead, values: Mean[], differences: Mean[], bounds: string[],
  *            words: string}} FigureRow
  *
- * The figures of roads over many days.
- * @typedef {{from: number, to: number, days: number, stopped: boolean, figures: FigureRow[]}}
- *   DaysFigures
+ * The figures of roads over many days, and sentences that warn of the intervals of few days.
+ * @typedef {{from: number, to: number, days: number, stopped: boolean, figures: FigureRow[],
+ *            warnings: string[]}} DaysFigures
  *
  * The figures of roads, and the travel times of each by the minute of entry, in the order of minutes.
  * @typedef {{from: number, to: number, figures: FigureRow[], entries: Entry[][]}} Figures

@@ -96,7 +96,7 @@ export function openList(road, isOpen) {
 function renew(road) {
   const {version, length} = roadOf(road);
   store.roads[road] = assign(new Road(road, length), {version: version + 1});
-  layersOf(road).next = 0;
+  layersOf(road).restart();
   return refreshChanges(road);
 }
 
@@ -107,7 +107,7 @@ export const renewFixed = () => Promise.all(fixedRoads().map(renew)).then(() => 
 
 /** Ask for the lists of the roads that never change again: others may have shared what they list. */
 export const refreshFixed = () => Promise.all(fixedRoads().map((road) => {
-  layersOf(road).next = 0;
+  layersOf(road).restart();
   return refreshChanges(road);
 }));
 

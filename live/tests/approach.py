@@ -123,12 +123,12 @@ class Roads(Case):
 
     async def test_who_loses_cars(self) -> None:
         """A queue that has room on the approach loses nobody. If it outgrows the approach, hours and delay are bounds, and the words name
-        the inlet at the head."""
-        server, last = self.server(plan={**KM, "stalled": [], "ramps": []}), LEAD + 600
+        the inlet at the head. Both queues are gone at the end."""
+        server, last = self.server(plan={**KM, "stalled": [], "ramps": []}), LEAD + 1_500
         async with server.seat() as ada:
             await ada.say("clock", to=last)
             for cell, bounds in ((200, ["", "", "", ""]), (60, ["at least"] * 4)):
-                put = await ada.ask("gesture", key=f"{cell}", shape=["block", cell, cell, LEAD + 100, None, 1])
+                put = await ada.ask("gesture", key=f"{cell}", shape=["block", cell, cell, LEAD + 100, LEAD + 400, 1])
                 said = await ada.ask("figures", of=["shared", ada.at], **{"from": LEAD, "to": last})
                 rows = {row["figure"]["key"]: row for row in said["figures"]}
                 self.assertEqual([rows[key]["bounds"][0] for key in ("delay", "hours", "approach hours", "all hours")], bounds)

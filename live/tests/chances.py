@@ -11,6 +11,7 @@ from typing import Any, Iterator, Sequence, cast
 from unittest import mock
 
 from zegdrut.figures import Value
+from zegdrut.figures.queues import Ends
 from zegdrut.figures.table import FREEWAY
 from zegdrut.program.wire import PlanLine
 
@@ -116,15 +117,17 @@ class Days(Case):
             self.assertEqual(await soon(self.here.ask(self.ada, "days", of=None)), {"stopped": True})
             said = await soon(question)
             self.assertEqual((said["days"], said["stopped"]), (days, True))
+            self.assertEqual(said["warnings"], [] if days == 1 else [
+                f"2 days are few: ± is then {T_OF[1]:.1f} standard errors of the mean (2.0 for many days). Use 5 days or more"])
             self.are_means(said, await self.of_days(days))
 
     def test_days_count_in_the_order_of_their_seeds(self) -> None:
         """The second day ends first, and the first one is 1, the second 2, the third 4."""
         figures = list_figures(cast(PlanLine, SMALL), FREEWAY)
 
-        def ended(_make: object, seeds: Sequence[int]) -> Iterator[tuple[int, list[list[Value]]]]:
+        def ended(_make: object, seeds: Sequence[int]) -> Iterator[tuple[int, comparison.Day]]:
             for place in (1, 0, 2):
-                yield place, [[Value(2.0 ** place, 2.0 ** place, 0.0)] * len(figures)]
+                yield place, comparison.Day([[Value(2.0 ** place, 2.0 ** place, 0.0)] * len(figures)], [Ends()])
         road = {"name": "a", "edits": [], "demands": [[(0, 500.0)] for _ in SMALL["inlets"]]}
         compared: Any = {"plan": SMALL, "roads": [road, road], "first": 20, "last": 200, "program": str(program()), "origin": 0}
         with mock.patch("server.figures.comparison.iterate_days", ended):
@@ -137,7 +140,10 @@ class Days(Case):
         entries = self.here.entries()
         self.over(2)
         preview, own = [await soon(self.here.ask(self.ada, "days", of=of, **SPAN)) for of in (["before", "after"], mine(self.ada))]
-        self.assertEqual(json.dumps(preview), json.dumps(own).replace("(mine)", "(after)"))  # what their words call the second road
+        words = json.dumps(own)
+        for name, other in (("(mine)", "(after)"), ("the road mine", "the road after"), ("the road shared", "the road before")):
+            words = words.replace(name, other)
+        self.assertEqual(json.dumps(preview), words)
         self.assertEqual(self.here.entries(), entries)
 
     async def test_a_road_with_fixed_random_numbers_has_only_one_day(self) -> None:

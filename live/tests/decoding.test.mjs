@@ -71,7 +71,9 @@ test("an answer is decoded as its command requires", () => {
   assert.deepEqual([done.since, done.next, done.more, done.touched], [2, 4, false, 60]);
   assert.deepEqual(done.blocked, [{stamp: {count: 5, hash: "h65"}, by: ["Ben"]}]);
   const figure = {key: "lost", of: [null, null], label: "lost demand", unit: "cars", title: "lost demand, cars", digits: 0};
-  const days = decodeAnswer("days", {days: 2, figures: [{figure, values: [[1, 2], [3, null]], differences: [[null, null]], bounds: [""], words: ""}]});
+  const days = decodeAnswer("days", {days: 2, figures: [{figure, values: [[1, 2], [3, null]], differences: [[null, null]], bounds: [""], words: ""}],
+                                     warnings: ["2 days are few"]});
+  assert.deepEqual(days.warnings, ["2 days are few"]);
   assert.deepEqual(days.figures, [{figure, values: [{mean: 1, half: 2}, {mean: 3, half: null}],
                                    differences: [{mean: null, half: null}], bounds: [""], words: ""}]);
 });

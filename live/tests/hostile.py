@@ -6,6 +6,7 @@ import contextlib
 import json
 import math
 import os
+import signal
 import statistics
 import sys
 import time
@@ -404,7 +405,8 @@ class Neighbours(Case):
         return seat
 
     async def test_nobody_waits_for_questions_of_tabs_that_have_gone(self) -> None:
-        """The tab of a seat is reopened again and again, and each time it asks questions that take long."""
+        """The tab of a seat is reopened again and again, and each time it asks questions that take long. The program is stopped while a tab is
+        there, so it answers none of its questions before the tab has gone."""
         plan = {**SMALL, "length": 2_000, "zone": 1_000, "zones": [[5, 6_554]] * 2}
         server = self.server(plan=plan)
         async with server.seat("Ada") as ada:
@@ -417,11 +419,21 @@ class Neighbours(Case):
             alone, before = (used(server) - before) / 4, used(server)
         for _ in range(8):
             async with server.seat(key=ada.key) as tab:
+                os.kill(server.program, signal.SIGSTOP)
                 for number in range(8):
                     await tab._socket.send_str(json.dumps({"id": number, "diagram": {"at": tab.at, **rows}}))
+                await tab.reply("ping")  # all are read
+            os.kill(server.program, signal.SIGCONT)
         async with server.seat(key=ada.key) as tab:
             await tab.ask("scenario")
-        self.assertLess(used(server) - before, 48 * alone)  # of 64: each tab had a moment
+        spent = list[int]()
+
+        async def is_idle() -> bool:
+            spent.append(used(server))
+            await asyncio.sleep(1)
+            return used(server) == spent[-1]
+        await until(is_idle, "the program has nothing to do")
+        self.assertLess(spent[-1] - before, 16 * alone)  # of 64
 
     async def test_nobody_waits_for_a_tab_that_floods_or_never_reads(self) -> None:
         server = self.server()
@@ -455,7 +467,7 @@ class Neighbours(Case):
         with self.assertRaises(ConnectionError):
             await deaf.reply("ping")
         await good.reply("ping")
-        self.assertLess(memory(server), 200)
+        self.assertLess(memory(server), 120)  # replies that nobody reads would be hundreds of megabytes
 
 
 def used(server: Server) -> int:

@@ -58,7 +58,7 @@ class OneTab(BrowserCase):
         tab, = self.open(FREEWAY)
         tab.tool("capacity")
         tab.type_and_apply(kmFrom="3", kmTo="3.75", timeFrom="0:20", timeTo="0:40", capacity="")
-        self.assertTrue(tab.text("said").startswith("The capacity must be a number of cars per hour above 0."))
+        self.assertTrue(tab.text("said").startswith("The capacity must be a number of cars per hour per lane above 0."))
         tab.fill(capacity="2000")
         tab.press_in("#apply")
         tab.until(lambda: "out of range" in tab.text("said"), "refused")

@@ -127,6 +127,8 @@ class TwoTabs(BrowserCase):
         self.assertAlmostEqual(more[0], mine[0] - shared[0], delta=0.011)
         self.assertIn("Over 2 of 3 days, stopped, 0:00:00 to 0:15:00", ada.text("over"))
         self.assertIn("Means of 2 days: ", ada.text("over"))
+        self.assertIn(" 2 days are few: \u00b1 is then 12.7 standard errors of the mean (2.0 for many days). Use 5 days or more. All figures are per "
+                      "lane: for the whole road multiply cars, flows and vehicle hours by the number of lanes.", ada.text("over"))
         self.assertTrue("\nmean of 2 days,unit,mine," in ada.save("Figures", "figures-2-days.csv").read_text(encoding="utf-8"))
         ada.press("One day", "#days")
         self.assertTrue(ada.part("oneDay").is_displayed())

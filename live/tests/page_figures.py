@@ -131,8 +131,11 @@ class OneFreeway(BrowserCase):
         self.assertEqual(tab.script("return [...document.querySelectorAll('#fileDemandTable tr')].map((row) => "
                                     "[...row.children].map((cell) => cell.textContent).join(' '))"),
                          ["from at 0 km at 0.45 km", "07:00 900 200", "07:05 612 200", "07:10 612 311"])
+        self.assertEqual(tab.script("return $('fileDemandTable').caption.textContent"), "Cars per hour per lane that want to enter")
         self.assertEqual(tab.script("return framesShown().map(({kind}) => kind)"), ["limit"])
-        tab.tool("inflow")
+        for tool in ("capacity", "inflow"):
+            tab.tool(tool)
+            self.assertIn("cars/h/lane", tab.text("values"))
         tab.choose("inlet", "1")
         tab.type_and_apply(demand="447.69", timeFrom="7:05", timeTo="7:10")
         self.assertEqual(tab.lines("own"), ["Demand 448 cars/h, at 0.45 km, 07:05–07:10 private"])
@@ -189,7 +192,7 @@ class OneFreeway(BrowserCase):
             self.assertIn(said, tab.text("said"))
         tab.tool("inflow")
         tab.type_and_apply(demand="1710", timeFrom="0:05", timeTo="0:10")
-        found = re.fullmatch(r"The demand is out of range: this inlet admits 0 to (1,7\d\d) cars per hour "
+        found = re.fullmatch(r"The demand is out of range: this inlet admits 0 to (1,7\d\d) cars per hour per lane "
                              r"\(limit 135 km/h, slowing 10 %\).", tab.text("said"))
         self.assertTrue(found and demand_is(int(found[1].replace(",", "")), 65_536, FREEWAY), tab.text("said"))
         self.assertEqual(operations_of(self.server), [])
@@ -305,6 +308,8 @@ class OneFreeway(BrowserCase):
     def test_flow_and_speed_by_time_are_drawn_and_read(self) -> None:
         tab, = self.open(FREEWAY)
         tab.run_an_hour()
+        tab.until(lambda: tab.text("figuresNote").endswith(
+            "All figures are per lane: for the whole road multiply cars, flows and vehicle hours by the number of lanes."), "what the figures are")
         tab.tool("block")
         tab.type_and_apply(kmFrom="3", kmTo="3.15", timeFrom="0:20", timeTo="0:30")
         tab.script("$('series').open = true")
@@ -324,6 +329,14 @@ class OneFreeway(BrowserCase):
                 speed = f", {math.floor(speeds / cars * 27 + 0.5)} km/h" if cars else ""
                 texts.append(f"{name} {60 * cars:,} cars/h{speed}")
             self.assertEqual(tab.text("seriesRead"), f"0:{minute}:00–0:{minute + 1}:00: " + "; ".join(texts))
+        self.assertEqual(tab.script("""
+            const texts = [], fill = CanvasRenderingContext2D.prototype.fillText;
+            CanvasRenderingContext2D.prototype.fillText = function (text, ...place) { texts.push(text); fill.call(this, text, ...place); };
+            notify("series");
+            CanvasRenderingContext2D.prototype.fillText = fill;
+            return texts.filter((text) => /[a-z]/.test(text));"""), ["cars/h per lane", "km/h", "s"])
+        self.assertEqual(tab.script("return $('flowChart').ariaLabel"), "Flow per lane by time")
+        self.assertRegex(tab.save("Travel times", "travel-times.csv").read_text(encoding="utf-8"), "^# travel times of [^\n]*, per lane\n")
         drawn = tab.script("""
             const {width, height} = $("speedChart");
             const data = $("speedChart").getContext("2d").getImageData(0, 0, width, height).data;
@@ -373,7 +386,7 @@ class OneFreeway(BrowserCase):
         text = path.read_text(encoding="utf-8")
         self.assertIn("'=1+1,Ada", text)
         self.assertIn("54 km/h, 0–0.375 km, from 0:20:00 on", text)
-        self.assertIn("# changes of the road of =1+1,Ada, plan.json, up to 0:00:00\n", text)
+        self.assertIn("# changes of the road of =1+1,Ada, plan.json, up to 0:00:00, per lane\n", text)
         self.assertRegex(text, r",20\d\d-\d\d-\d\d \d\d:\d\d:\d\d,put,")
 
     def test_a_saved_transcript_can_be_run_again(self) -> None:

@@ -182,7 +182,7 @@ class OneForm(BrowserCase):
         for begin in ("0:49:59", "0:50", ""):
             tab.fill(timeFrom=begin)
             tab.until(lambda: tab.text("toolHint").startswith("inflow chance"), "it is measured")
-            said = re.fullmatch(r"inflow chance (0\.\d+); this inlet then admits up to [\d,]+ cars/h", tab.text("toolHint"))
+            said = re.fullmatch(r"inflow chance (0\.\d+); this inlet then admits up to [\d,]+ cars/h per lane", tab.text("toolHint"))
             found.append(float(said[1]) if said else math.nan)
         merging, alone, now = found
         # If nobody passes the inlet, a chance q admits some q / (1 + q q) cars a step; next to the cars of the main road it

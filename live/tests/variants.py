@@ -5,6 +5,8 @@ import asyncio
 import json
 import random
 import statistics
+import time
+from pathlib import Path
 from typing import Any, Sequence
 from unittest import mock
 
@@ -13,7 +15,7 @@ from zegdrut.program.scripts import Script, open_edited
 from faulty import Disk, Here, soon, written
 from oracle import by_rows, oracle_of
 from raw_figures import STEPS, Run, compare as compare_runs, figures_of, random_plan, random_shapes
-from running import SMALL, Case, descendants, until
+from running import SMALL, Case, descendants, new_folder, program, until
 from server.background.settings import Settings
 from server.journal.lab import MOST_VARIANTS
 from server.model.reading import read_operation
@@ -278,6 +280,87 @@ class Kept(Case):
             return {*descendants()} <= there
         await until(are_none, "unused roads have no program")
 
+    def program_that(self, does: str) -> Path:
+        """Replace road_lab for the roads that do not change. The new program adds a line to a file when it starts, and then does this. Return the
+        file."""
+        folder = new_folder()
+        path, starts = folder / "road_lab", folder / "starts"
+        path.write_text(f"#!/bin/sh\nSTARTS={starts}\necho >> $STARTS\n{does}\n", encoding="utf-8")
+        path.chmod(0o755)
+        self.here.keeper.path = str(path)
+        return starts
+
+    async def test_a_program_that_crashes_is_replaced_once(self) -> None:
+        """A road on which the program crashes again is refused, and the other roads of the seat are not. So are those of a preview."""
+        there = {*descendants()}
+        await self.name("noon")
+        await self.here.ask(self.ada, "preview", what="share")
+        crash = f'[ "$(wc -l < $STARTS)" -gt 1 ] || exit 3; exec {program()}'
+        for at, kept in (("variant:night", "night"), ("after", "noon")):
+            starts = self.program_that(crash)
+            found = await self.picture_of_rows(at)
+            self.assertEqual(found, self.rows[kept][0])
+            self.assertEqual(starts.read_text(), "\n\n")
+        self.here.questions.drop_seat(self.ada)
+        await self.here.ask(self.ada, "preview", what="share")
+        on_night = 'read -r plan; echo \'{"open":3}\'; while read -r line; do case "$line" in *road1*) exit 3; esac; echo \'{"horizon":200}\'; done'
+        for at in ("variant:night", "after"):
+            starts = self.program_that(on_night)
+            for wanted in ("\n\n", "\n\n\n\n"):
+                with self.assertRaisesRegex(Refused, "NoProgram"), self.assertLogs(level="WARNING"):
+                    await soon(self.here.ask(self.ada, "advance", at=at, to=LAST))
+                self.assertEqual(starts.read_text(), wanted)
+            self.assertEqual((await soon(self.here.ask(self.ada, "advance", at={"after": "before"}.get(at, "file"), to=LAST)))["horizon"], LAST)
+        await self.end_of_programs(there)
+
+    async def picture_of_rows(self, at: str) -> Any:
+        await self.here.ask(self.ada, "advance", at=at, to=LAST)
+        return await soon(self.here.ask(self.ada, "diagram", at=at, **{"from": 0, "to": LAST}))
+
+    async def test_roads_that_are_being_queried_are_kept(self) -> None:
+        """A query may take longer than roads are kept without one. They are kept as long after its end."""
+        there = {*descendants()}
+        for at in ("variant:night", "after"):
+            await self.here.ask(self.ada, "preview", what="share")
+            await self.here.ask(self.ada, "advance", at=at, to=LAST)
+            road, is_free = self.here.questions.roads.find(self.ada, at), asyncio.Event()
+            query = asyncio.ensure_future(road.run_job(is_free.wait))
+            await asyncio.sleep(0)
+            late = time.monotonic() + 2 * UNUSED
+            with mock.patch("server.roads.fixed_roads.time.monotonic", return_value=late):
+                self.here.questions.roads.find(self.ben, "file")
+                is_free.set()
+                self.assertTrue(await soon(query))
+            with mock.patch("server.roads.fixed_roads.time.monotonic", return_value=late + UNUSED - 1):
+                self.here.questions.roads.find(self.ben, "file")
+                self.assertEqual(await self.picture_of_rows(at), self.rows["night"][0])
+        await self.end_of_programs(there)
+
+    async def test_a_query_of_a_preview_that_is_replaced_meanwhile_is_refused(self) -> None:
+        """Its program has ended, but did not crash."""
+        there = {*descendants()}
+        await self.here.ask(self.ada, "preview", what="share")
+        road, is_free = self.here.questions.roads.find(self.ada, "after"), asyncio.Event()
+
+        async def body() -> list[bytes]:
+            await is_free.wait()
+            return await road.say_all([b'{"cells":{"at":"road1","step":0}}'], {})
+        query = asyncio.ensure_future(road.run_job(body))
+        await asyncio.sleep(0)
+        await self.here.ask(self.ada, "preview", what="share")
+        is_free.set()
+        with self.assertRaisesRegex(Refused, "NoPreview"):
+            await soon(query)
+        await self.end_of_programs(there)
+
+    async def end_of_programs(self, there: set[int]) -> None:
+        """Drop the roads of the seat, and wait until only these processes are left."""
+        self.here.questions.drop_seat(self.ada)
+
+        async def are_none() -> bool:
+            return {*descendants()} <= there
+        await until(are_none, "no program is left")
+
     async def test_a_query_is_answered_while_another_variant_is_named(self) -> None:
         """Its roads are dropped for those with the new name once all queries are answered."""
         there = {*descendants()}
@@ -370,7 +453,7 @@ class Compared(Case):
                                  [*alone["values"], *alone["differences"], *alone["bounds"]], row["figure"])
                 bounds |= {row["bounds"][place]}
                 if "lost" in alone["words"]:
-                    self.assertIn("lost", row["words"])
+                    self.assertEqual(row["words"].count("Cars that cannot enter are lost"), 1)
         self.assertGreater(len(bounds), 1)
 
     async def test_days_of_three_roads_are_means_of_their_days(self) -> None:

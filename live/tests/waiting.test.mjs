@@ -83,7 +83,7 @@ test("a demand that is cancelled is not put", async () => {
 test("a demand that the inlet cannot admit, or that is not measured, is refused by its name", async () => {
   put(2500);
   await measured(CURVE);
-  assert.match(store.message[0], /^The demand is out of range: this inlet admits 0 to 2,000 cars per hour/);
+  assert.match(store.message[0], /^The demand is out of range: this inlet admits 0 to 2,000 cars per hour per lane/);
   store.curves.clear();
   put(900);
   await measured({refused: "Failed", why: "no"});
@@ -106,7 +106,7 @@ test("a capacity waits until its chances are measured, and is put once with them
 
 test("a capacity that cannot be, or that is not measured, is refused", async () => {
   applyArea(areaOfShape({...WORKS, value: NaN}));
-  assert.match(store.message[0], /^The capacity must be a number of cars per hour above 0/);
+  assert.match(store.message[0], /^The capacity must be a number of cars per hour per lane above 0/);
   applyArea(areaOfShape(WORKS));
   await measured({refused: "Range", why: "works of 0.75 km leave at most 850 cars per hour"});
   assert.deepEqual(store.message, ["works of 0.75 km leave at most 850 cars per hour", true]);

@@ -91,29 +91,62 @@ class Reports(Case):
             row, = (one for one in days["figures"] if one["figure"]["key"] == key)
             means = [f"{part:,.{digits}f}" for one in (*row["values"], *row["differences"]) for part in one]
             self.assertEqual(rows_of(page)[name][:6], means, name)
-        for wanted in ("<h1>The road of &lt;Ada&gt;: 0:01:00 to 0:10:00</h1>", "<li>a &amp; b</li>", "@page { size: A4", "Seeds 1 to 4",
+        few = "4 days are few: ± is then 3.2 standard errors of the mean (2.0 for many days). Use 5 days or more"  # (Student's t of a printed table)
+        self.assertEqual(days["warnings"], [few])
+        for wanted in (f'<p class="warning">{few}.</p>', "<h1>The road of &lt;Ada&gt;: 0:01:00 to 0:10:00</h1>", "<li>a &amp; b</li>", "@page { size: A4", "Seeds 1 to 4",
                        "main road: ", "on-ramp at km 0.3: ", "0.9 km, one lane, limit 135 km/h, slowing 10%", "off-ramps, junctions and trucks"):
             self.assertIn(wanted, page)
         self.assertNotIn("<b>", page)
         self.assertIsNone(re.search(r'(src|href)="(?!data:)|<script|<button', page))
 
     async def test_the_report_on_a_calibrated_road_says_how_sure_its_drivers_are(self) -> None:
-        """Beside the figures of one day, which have no ±, the sentence does not name it. Without a freeway file there is no such sentence."""
+        """Beside the figures of one day, which have no ±, the sentence does not name it. The next one says where the table of ranges is. Without a
+        freeway file that was calibrated there is no such sentence."""
+        elsewhere = (" This report has no table of how far the figures move with drivers that fit as well: the report that <code>python3 -m zegdrut report</code> "
+                     "writes of the freeway file has one, for the works of that file.")
+        no_jam = " Calibration: the counts do not show the flow that leaves a jam, so nothing says whether queues of this road last as long as real ones."
+        jam = (" Calibration: flow that leaves the jam at station 103, counted at station 104: 1,500 cars/h per lane measured, 1,350 ± 20 simulated: queues of "
+               "this road last too long, so works cost too much on it.")
+        leaving = {"station": "103", "following": "104", "measured": 1_500.0, "simulated": 1_350.0, "half": 20.0}
         said = ("Calibration: 12.0 to 41.0 vehicle hours of delay per lane on the calibrated day by drivers that fit its counts equally well within chance, "
                 "and 30.0 by those of the file")
         drivers = {"slowing": 0.1, "start": 0.2, "factor": 0.5}
-        calibrated = {"calibration": {"delay": 30.0, "less": {**drivers, "delay": 12.04}, "more": {**drivers, "delay": 41.0}}}
+        calibrated: dict[str, Any] = {"delay": 30.0, "less": {**drivers, "delay": 12.04}, "more": {**drivers, "delay": 41.0}}
         for words, end in (("steady", "."), (7, ": ± does not include this.")):
             async with Here(plan={**SMALL, "words": words}) as here:
                 seat, = await here.join("Ada")
                 await here.lab.road_clock.set_clock(to=600)
-                cases: list[tuple[dict[str, Any] | None, list[str]]] = [(None, []), ({}, []), (calibrated, [end])]
+                cases: list[tuple[dict[str, Any] | None, list[str]]] = [
+                    (None, []), ({}, []), ({"calibration": calibrated}, [end + no_jam]), ({"calibration": {**calibrated, "leaving": [leaving]}}, [end + jam])]
                 for file, wanted in cases:
                     if file is not None:
                         (here.keeper.folder / FREEWAY_FILE).write_text(json.dumps(file), encoding="utf-8")
                     with mock.patch("server.figures.report.DAYS", 2):
                         page = (await soon(here.ask(seat, "report", **ASKED, **SPAN)))["html"]
-                    self.assertEqual(re.findall(f"{re.escape(said)}(.*?)</p>", page), wanted)
+                    self.assertEqual(re.findall(f"{re.escape(said)}(.*?)</p>", page), [one + elsewhere for one in wanted])
+                    self.assertEqual("zegdrut report" in page, bool(wanted))
+
+    async def test_the_report_says_that_nothing_shows_how_sure_capacities_are(self) -> None:
+        """It names those of all compared roads, each once, and those of no other road, nor what is withdrawn."""
+        async with Here() as here:
+            seat, = await here.join("Ada")
+            await here.lab.road_clock.set_clock(to=600)
+
+            async def put(key: str, cars: int) -> Any:
+                return (await here.ask(seat, "gesture", key=key, shape=["capacity", 3, 3, 100, 300, [cars, 2, 20_000, 20_000]]))["stamp"]
+
+            async def said(*of: str) -> list[str]:
+                with mock.patch("server.figures.report.DAYS", 1):
+                    page = (await soon(here.ask(seat, "report", **{**ASKED, "of": [*of]}, **SPAN)))["html"]
+                return re.findall(r"No interval and no range shows how sure the (.*?): try others\.", page)
+            self.assertEqual(await said("shared", "seat1"), [])
+            await put("shared", 1_200)
+            await here.share(seat)
+            self.assertEqual(await said("shared", "seat1"), ["capacity of 1,200 cars/h is"])
+            await put("own", 900)
+            await here.ask(seat, "undo", stamp=await put("undone", 800), key="undo")
+            self.assertEqual(await said("shared", "seat1"), ["capacities of 900 and 1,200 cars/h are"])
+            self.assertEqual(await said("shared", "file"), ["capacity of 1,200 cars/h is"])
 
     async def test_an_invalid_report_is_refused(self) -> None:
         async with Here() as here:

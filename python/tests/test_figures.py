@@ -204,7 +204,19 @@ class Table(unittest.TestCase):
             for row in with_lost([rows], ["before", "after"], [{"km 0": cars} for cars in lost])[0]:
                 is_bound = bool(bound) and row.figure.key != "cars"
                 self.assertEqual(row.bound, bound if is_bound else "")
-                self.assertEqual(row.words, f"Cars that cannot enter are lost: {words}; hours and delay leave them out." if is_bound else "")
+                self.assertEqual(row.words, (f"Cars that cannot enter are lost: {words}; hours and delay leave them out.",) if is_bound else ())
+
+    def test_two_reasons_for_a_bound(self) -> None:
+        """If one reason makes a figure too small and the other too great, nothing is known."""
+        plan = Plan(length=120, inlets=[(0, 0)], zones=[(5, 0)], detectors=[60]).to_line()
+        row, = compare(choose(list_figures(plan), "hours"), [[Value(1.0, 2.0, 1.0)]])
+        wanted = {("", "at least"): "at least", ("at most", "at least"): "unknown", ("at least", "at least"): "at least", ("at most", "at most"): "at most",
+                  ("at least", ""): "at least", ("unknown", "at most"): "unknown"}
+        for (bound, of_lost), both in wanted.items():
+            lost = {"": (0.0, 0.0), "at least": (0.0, 7.0), "at most": (7.0, 0.0)}[of_lost]
+            early = dataclasses.replace(row, bound=bound, words=("The end.",))
+            found = with_lost([[early]], ["a", "b"], [{"km 0": cars} for cars in lost])[0][0]
+            self.assertEqual((found.bound, found.words[0], len(found.words)), (both, "The end.", 1 + any(lost)))
 
     def test_roads_that_lose_equally_many_cars_make_no_bound(self) -> None:
         """If both roads have the same demand and admit as many cars, lost cars of only one road are chance, and nothing is a bound. If both
@@ -236,8 +248,8 @@ class Table(unittest.TestCase):
             self.assertEqual(tuple(table[0].bound for table in tables), bounds)
             parts = ", ".join(f"{cars} at km 0 ({name})" for name, cars in zip("abc", lost) if cars)
             self.assertEqual({table[0].words for table in tables},
-                             {f"Cars that cannot enter are lost: {parts}; hours and delay leave them out." if parts else ""})
-            self.assertEqual({(table[1].bound, table[1].words) for table in tables}, {("", "")})
+                             {(f"Cars that cannot enter are lost: {parts}; hours and delay leave them out.",) if parts else ()})
+            self.assertEqual({(table[1].bound, table[1].words) for table in tables}, {("", ())})
 
     def test_several_roads_are_compared_with_the_first(self) -> None:
         """The table of a pair is the same whether other roads are compared too; days are paired. A road alone has one table."""

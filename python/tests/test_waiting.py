@@ -139,13 +139,29 @@ class Waiting(unittest.TestCase):
         days = [[run_side(side, 3, window, False) for side in sides]]
         self.assertGreater(days[0][1].waiting[0][-1], 20)
         rows = {row.figure.title: row for row in make_table(sides, days, window)}
-        self.assertEqual({title for title, row in rows.items() if row.bound == "at least" and "on the road after" in row.words},
+        self.assertEqual({title for title, row in rows.items() if row.bound == "at least" and "on the road after" in "".join(row.words)},
                          {"delay, vehicle hours", "vehicle hours waiting before km 0", "longest queue before km 0, cars",
                           "end of the queue before km 0, min after the begin", "vehicle hours on the road", "vehicle hours on the road and before it"})
         difference = rows["vehicle hours on the road and before it"].difference.mean
         self.assertAlmostEqual(rows["delay, vehicle hours"].difference.mean or 0, difference or -1, 9)
         swapped = make_table(sides[::-1], [day[::-1] for day in days], window)
         self.assertEqual({row.bound for row in swapped}, {"", "at most"})
+
+    def test_a_run_that_ends_while_cars_are_late(self) -> None:
+        """Nobody waits, but a queue on the road is there when the run ends: hours and delay say so, and how many cars more that road has."""
+        last = 850
+        script, free = make_script([("block", 180, 800, 1)], last=last), make_script([], last=last)
+        sides = [Side(name, one, [[(0, 900.0)]] * 2, free) for name, one in (("open", free), ("closed", script))]
+        days = [[run_side(side, 3, Window(0, last), False) for side in sides]]
+        before, after = (run(one, free)[3] for one in (free, script))
+        both = set().union(*before) & set().union(*after)
+        more = len(after[-1] & both) - len(before[-1] & both)
+        self.assertGreater(more, 2 * len(before[-1]) ** 0.5)
+        for rows, bound in ((make_table(sides, days, Window(0, last)), "at least"), (make_table(sides[::-1], [days[0][::-1]], Window(0, last)), "at most")):
+            self.assertEqual({row.figure.title: row.bound for row in rows if row.bound},
+                             dict.fromkeys(["delay, vehicle hours", "vehicle hours on the road"], bound))
+            self.assertEqual({one.partition(" The figures")[0] for row in rows for one in row.words},
+                             {f"The run ends too early: at its end the road closed has {more} more cars than the road open."})
 
     def test_cars_that_nobody_knows(self) -> None:
         """Cars that enter although nobody arrived keep their numbers, and no two cars get one number. Each car is on the road in the rows after

@@ -8,17 +8,19 @@ from __future__ import annotations
 import contextlib
 import ctypes
 import signal
-from typing import Awaitable, Callable, Iterator, Sequence, TypedDict
+from typing import Awaitable, Callable, Iterator, NamedTuple, Sequence, TypedDict
 
 from zegdrut.figures import Value, compare_roads, measure_roads
 from zegdrut.figures.days import SEEDS
+from zegdrut.figures.intervals import warn_few_days
+from zegdrut.figures.queues import Ends
 from zegdrut.figures.simulation import iterate_days
 from zegdrut.figures.trips import Window
 from zegdrut.reports.report import run_side
 
 from ..tabs.refusals import Refused
 from . import child
-from .figures import ComparedRoads, Row, list_figures, sides_of, units_of, write_rows
+from .figures import ComparedRoads, Row, compare_all_ends, list_figures, sides_of, units_of, write_rows
 
 NICE = 10
 DaysQuestion = TypedDict("DaysQuestion", {"compared": ComparedRoads, "days": int})
@@ -42,7 +44,7 @@ class Comparisons:
 
     async def compare(self, mine: Comparison, name: Callable[[int], str], find_roads: Callable[[], Awaitable[ComparedRoads]],
                       progress: Callable[[int], None]) -> dict[str, object]:
-        """Return the figures of all days; if the comparison is stopped, of those that are done. Stop the seat's former comparison. Call
+        """Return the figures of all days, with warnings; if the comparison is stopped, of those that are done. Stop the seat's former comparison. Call
         `progress` with the number of days that are done. Raise `Refused` if a comparison of another seat is running; `name` returns its
         name."""
         now = self._now
@@ -68,7 +70,7 @@ class Comparisons:
         done = mine.answer["done"]
         if not done:
             raise Refused("Stopped", "the request was stopped before the first day was simulated")
-        return {"days": done, "stopped": done < mine.days, "figures": mine.answer["figures"]}
+        return {"days": done, "stopped": done < mine.days, "figures": mine.answer["figures"], "warnings": warn_few_days(done)}
 
     def stop(self, index: int | None = None) -> bool:
         """Stop the comparison of a seat, or of any seat if none is given. Return whether there was one."""
@@ -81,24 +83,33 @@ class Comparisons:
 
 # In the child
 
+class Day(NamedTuple):
+    """The figures of a day, and the cars at its end, of the first road with each later one."""
+
+    figures: Sequence[Sequence[Value]]
+    ends: Sequence[Ends]
+
+
 def simulate_days(asked: DaysQuestion) -> Iterator[DaysAnswer]:
     """Simulate all roads with each seed, on all processors but one. Yield the figures after each day, in the order of the seeds, so that the
     days of a comparison that was stopped are the first ones."""
-    compared, days = asked["compared"], list[Sequence[Sequence[Value]]]()
-    early: dict[int, Sequence[Sequence[Value]]] = {}  # days that ended before an earlier one, by their places
+    compared, days = asked["compared"], list[Day]()
+    early: dict[int, Day] = {}  # days that ended before an earlier one, by their places
     window, sides = Window(compared["first"], compared["last"]), sides_of(compared)
     figures = list_figures(compared["plan"], units_of(compared))
 
-    def make_day(seed: int) -> Sequence[Sequence[Value]]:
+    def make_day(seed: int) -> Day:
         ctypes.CDLL(None).prctl(1, signal.SIGKILL)  # PR_SET_PDEATHSIG: this process is killed as soon as the one that started it has ended
-        return measure_roads(figures, [run_side(side, seed, window, with_rows=False) for side in sides])
+        runs = [run_side(side, seed, window, with_rows=False) for side in sides]
+        return Day(measure_roads(figures, runs), compare_all_ends(runs))
     first = int(compared["plan"]["words"])
     with contextlib.closing(iterate_days(make_day, [(first + one) % SEEDS for one in range(asked["days"])])) as running:
         for place, day in running:
             early[place] = day
             while len(days) in early:
                 days.append(early.pop(len(days)))
-                yield {"done": len(days), "figures": write_rows(compare_roads(figures, days), compared)}
+                tables = compare_roads(figures, [one.figures for one in days])
+                yield {"done": len(days), "figures": write_rows(tables, [one.ends for one in days], compared)}
 
 
 if __name__ == "__main__":

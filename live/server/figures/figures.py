@@ -14,8 +14,8 @@ from typing import Iterator, Mapping, Sequence, TypedDict
 from zegdrut import Edit, RoadLab
 from zegdrut.figures import Figure, FigureRow, Mean as FigureMean, RoadRun, compare_roads, list_means, measure_roads
 from zegdrut.figures.lost import AskedRates, compute_demands
-from zegdrut.figures.queues import is_of_free_road, is_shown, with_lost
-from zegdrut.figures.table import list_shown
+from zegdrut.figures.queues import NOBODY_WAITS, Ends, average_ends, compare_ends, is_of_free_road, is_shown, with_bounds, with_lost
+from zegdrut.figures.table import list_shown, pair_roads
 from zegdrut.figures.simulation import read_counts
 from zegdrut.figures.trips import DetectorCount, Trips, Window, compute_travel_times_by_entry, count_seconds_on
 from zegdrut.program.scripts import Script
@@ -35,8 +35,8 @@ MOST_FIGURE_ROADS = 12  # roads that are kept
 NICE = 5  # below editing, above what takes longer
 ENTRY = 60  # steps: travel times are grouped by the minute in which the cars entered
 
-ComparedRoad = TypedDict("ComparedRoad", {"name": str, "edits": Sequence[WrittenEdit], "demands": Sequence[AskedRates]})
-"""A road: what it is called, its edits, and the demands that were asked for, by inlet."""
+ComparedRoad = TypedDict("ComparedRoad", {"name": str, "edits": Sequence[WrittenEdit], "demands": Sequence[AskedRates], "capacities": Sequence[int]})
+"""A road: what it is called, its edits, the demands that were asked for, by inlet, and the capacities of its works in cars per hour."""
 ComparedRoads = TypedDict("ComparedRoads", {
     "plan": PlanLine, "roads": Sequence[ComparedRoad], "first": int, "last": int, "program": str, "origin": int})
 """Two roads or more with the same plan, a window of the steps `first` to `last` - 1, the path of road_lab, and the cell at km 0. Each road
@@ -79,19 +79,28 @@ def units_of(compared: ComparedRoads) -> Units:
     return Units(METRES, 1.0, compared["origin"])
 
 
-def write_rows(tables: Sequence[Sequence[FigureRow]], compared: ComparedRoads) -> list[Row]:
-    """Return figures in the form of a reply. They say which of them need a word: a detector was off for a while, or a road loses cars."""
+def compare_all_ends(runs: Sequence[RoadRun]) -> list[Ends]:
+    """Compare the cars at the end of a day on the first road with those on each later one."""
+    return [compare_ends(before, after) for before, after in pair_roads(runs)]
+
+
+def write_rows(tables: Sequence[Sequence[FigureRow]], days: Sequence[Sequence[Ends]], compared: ComparedRoads) -> list[Row]:
+    """Return figures in the form of a reply. They say which of them need a word: a detector was off for a while, a road loses cars, or cars are
+    late there at the end. `days` has for each day what `compare_all_ends` returns."""
+    names = [road["name"] for road in compared["roads"]]
     values = {(row.figure.key, *row.of): list_means(tables, place, len(compared["roads"])) for place, row in enumerate(tables[0])}
     places = [(units_of(compared).place(cell), values.get(("lost at", inlet, None)) or values["lost", None, None])
               for inlet, (cell, _) in enumerate(compared["plan"]["inlets"])]
     lost = [{place: means[number].mean or 0.0 for place, means in places} for number in range(len(compared["roads"]))]
-    tables = with_lost(tables, [road["name"] for road in compared["roads"]], lost)
+    bounded = [with_bounds(rows, pair, [[NOBODY_WAITS] * 2], average_ends(ends)) for rows, pair, *ends in zip(tables, pair_roads(names), *days)]
+    tables = with_lost(bounded, names, lost)
     found: list[Row] = []
     for rows in zip(*tables):
         row, (inlet, detector) = rows[0], rows[0].of
         found.append({"figure": write_head(row.figure), "values": [list(one) for one in values[row.figure.key, inlet, detector]],
                       "differences": [list(one.difference) for one in rows], "bounds": [one.bound for one in rows],
-                      "words": row.words or describe_off(row, values.get(("on", inlet, detector), ()), compared["last"] - compared["first"])})
+                      "words": " ".join(dict.fromkeys(words for one in rows for words in one.words)) or describe_off(
+                          row, values.get(("on", inlet, detector), ()), compared["last"] - compared["first"])})
     return found
 
 
@@ -208,7 +217,7 @@ class Roads:
             return
         runs = [road.run_of(side, window) for road, side in zip(roads, sides_of(compared))]
         figures = list_figures(compared["plan"], units_of(compared))
-        yield {"figures": write_rows(compare_roads(figures, [measure_roads(figures, runs)]), compared),
+        yield {"figures": write_rows(compare_roads(figures, [measure_roads(figures, runs)]), [compare_all_ends(runs)], compared),
                "entries": [*map(times_by_entry, runs)]}
 
 

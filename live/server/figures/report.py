@@ -12,7 +12,7 @@ from zegdrut.figures.days import SEEDS
 from zegdrut.figures.trips import Window
 from zegdrut.program.wire import PlanLine
 from zegdrut.reports.report import Side, make_tables, run_sides
-from zegdrut.reports.report_page import Contents, describe_approach, draw_demands, format_page
+from zegdrut.reports.report_page import Contents, describe_approach, describe_capacities, draw_demands, format_page
 from zegdrut.roads.calibrated import describe_calibration, read_calibration
 from zegdrut.roads.clock import Clock
 from zegdrut.roads.demand import Rates
@@ -29,6 +29,8 @@ DAYS = 5
 MOST_SECONDS = child.PATIENCE
 """The seconds that a report may take."""
 NICE = 8
+NO_RANGES = ("this report has no table of how far the figures move with drivers that fit as well: the report that `python3 -m zegdrut report` writes of the "
+             "freeway file has one, for the works of that file")
 MOST_DATES = 12  # changes of a demand that a sentence lists; if there are more, the chart shows them
 ReportQuestion = TypedDict("ReportQuestion", {
     "compared": ComparedRoads, "title": str, "works": Sequence[str], "clock": Sequence["str | None"], "days": int, "approach": bool, "calibration": Json})
@@ -39,6 +41,13 @@ ReportAnswer = TypedDict("ReportAnswer", {"html": str, "days": int, "why": str},
 
 
 # In the child
+
+def describe_sureness(calibration: Json, days: int) -> list[str]:
+    """Return sentences that say how sure the drivers are and where more is said of that, if `calibrate` wrote a calibration into the file of the
+    road. They stand beside figures of some days."""
+    found = describe_calibration(read_calibration(calibration), days)
+    return [*found, *[NO_RANGES] * bool(found)]
+
 
 def closures_of(edits: Edits, last: int, units: Units) -> list[tuple[int, int, float, float]]:
     """Return the closures of a road, as (from step, to step, from km, to km). Neighbouring cells are one closure. The edits of a cell
@@ -130,7 +139,8 @@ def make_page(asked: ReportQuestion) -> Iterator[ReportAnswer]:
         title=asked["title"], facts=facts_of(compared, sides, clock), works=asked["works"], notes=[], clock=clock, window=window,
         length=plan["length"], detectors=plan["detectors"], sides=sides, days=days, rows=tables[0], others=tables[1:], seed=seed,
         closed=closed, demand=demand_chart(plan, sides, clock, window), has_approach=asked["approach"],
-        sure=describe_calibration(read_calibration(asked["calibration"]), len(days))))}
+        remarks=describe_capacities([one for road in compared["roads"] for one in road["capacities"]]),
+        sure=describe_sureness(asked["calibration"], len(days))))}
 
 
 if __name__ == "__main__":

@@ -25,7 +25,7 @@ from ..model.road import Road
 from ..roads.program import ProgramExited, Program, Times, command_of, start
 from ..roads.screen import Differences, Screen
 from ..roads.turns import MORE, Job, More, Turns
-from ..tabs.refusals import Refused
+from ..tabs.refusals import Refused, program_crashed
 from .entries import JOURNAL_FORM, Clock, Entry, Folder, Forgetting, OwnOperation, read_plan_line, write_entry
 from .journal import Journal, NotWritten, explain_fault
 from .journal_lines import JOURNAL, CannotStart, CorruptJournal, Entries, JournalLine, to_json
@@ -321,7 +321,7 @@ class Keeper:
                     await self.replace(str(fault))
         except ProgramExited as fault:
             logging.error("%s", fault)
-        raise Refused("NoProgram", "the program crashed on this twice; the server's log says why")
+        raise program_crashed()
 
     async def replace(self, why: str | None = None) -> None:
         """Replace the program. The replicas of the new one get their roads when they are next asked."""

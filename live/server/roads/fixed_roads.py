@@ -3,6 +3,7 @@ program simulates them while they are queried."""
 from __future__ import annotations
 
 import asyncio
+import logging
 import time
 from typing import Awaitable, Callable, NamedTuple, Sequence, TypeVar
 
@@ -12,7 +13,7 @@ from zegdrut.program.wire import WrittenEdit
 from ..journal.journal_lines import to_json
 from ..journal.keeper import Keeper
 from ..model.road import Road
-from ..tabs.refusals import Refused
+from ..tabs.refusals import Refused, program_crashed
 from .program import Program, ProgramExited, Times, command_of, import_lines, start
 from .turns import Job, More
 
@@ -84,19 +85,31 @@ class FixedRoads:
         self.program = program
         return program
 
+    @property
+    def is_queried(self) -> bool:
+        """Return whether a query is not answered yet."""
+        return self._queries > 0
+
     async def run_job(self, name: str, body: Job[T]) -> T:
+        """Do a job with the program. Replace a program that exits, once."""
         self._queries += 1
         try:
-            async with self.answering:
-                await self.prepare_program(name)
-                while isinstance(said := await body(), More):
-                    pass
-                return said
-        except ProgramExited as fault:
-            self.close()
-            raise self._gone from fault
+            for _ in range(2):
+                try:
+                    async with self.answering:
+                        await self.prepare_program(name)
+                        while isinstance(said := await body(), More):
+                            pass
+                        return said
+                except ProgramExited as fault:
+                    self.close()
+                    if self._is_over:
+                        raise self._gone from fault
+                    logging.warning("the program of a road that does not change: %s", fault)
+            raise program_crashed()
         finally:
             self._queries -= 1
+            self.used = time.monotonic()
             self.when_idle()
 
     def close(self) -> None:
@@ -118,7 +131,7 @@ class FixedRoads:
     def end_when_idle(self) -> None:
         """End its program for good once all queries are answered."""
         self.when_idle = self.end_when_idle
-        if not self._queries:
+        if not self.is_queried:
             self.end()
 
 
@@ -180,9 +193,9 @@ class KeptRoads:
 
     def get(self, owner: Owner) -> FixedRoads | None:
         """Return the roads of a seat; None if it has none. Of other owners, drop previews that were not used for long, and let variants
-        rest."""
+        rest, unless they are being queried."""
         before = time.monotonic() - UNUSED
-        for other, roads in [(other, one) for other, one in self._of.items() if one.used < before and other != owner]:
+        for other, roads in [(other, one) for other, one in self._of.items() if one.used < before and other != owner and not one.is_queried]:
             if roads.source is None:
                 self.put(other, None)
             else:

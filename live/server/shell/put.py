@@ -167,7 +167,7 @@ def find_state(plan: PlanLine, edits: Sequence[WrittenEdit], inlet: int, step: i
 def find_chance(curve: Curve, demand: float) -> int:
     """Return the inflow chance in 1/65,536 that admits a demand in cars per hour. Raise `InvalidWords` if the inlet admits less."""
     if demand > curve["capacity"]:
-        raise InvalidWords(f"this inlet admits 0 to {curve['capacity']:,.0f} cars per hour here, not {demand:,.0f}")
+        raise InvalidWords(f"this inlet admits 0 to {curve['capacity']:,.0f} cars per hour per lane here, not {demand:,.0f}")
     points = curve["points"]
     for (low, less), (high, more) in zip(points, points[1:]):
         if demand <= more:

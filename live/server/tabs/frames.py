@@ -33,7 +33,7 @@ Frame = TypedDict("Frame", {
     "undo": "Stamp | None", "redo": "Stamp | None", "blocked": Sequence[SkippedOperation], "size": int, "stamps": Sequence[Stamp],
     "changes": Sequence[ListedOperation], "operations": Sequence[ReplicaOperation], "horizon": int, "cells": str, "rows": Sequence[str],
     "cars": Json, "speeds": int, "edits": Sequence[WrittenEdit], "sums": Sequence[int], "approach": Sequence[int], "flows": Sequence[DetectorFigures],
-    "counts": Json, "from": int, "to": int, "figures": Sequence[Row], "entries": Sequence[MeanTimes], "variants": Sequence[str], "days": int, "stopped": bool, "lines": str,
-    "html": str, "csv": str, "points": Sequence["tuple[int, float]"], "capacity": float, "value": Capacity, "now": int,
+    "counts": Json, "from": int, "to": int, "figures": Sequence[Row], "entries": Sequence[MeanTimes], "variants": Sequence[str], "days": int, "stopped": bool,
+    "warnings": Sequence[str], "lines": str, "html": str, "csv": str, "points": Sequence["tuple[int, float]"], "capacity": float, "value": Capacity, "now": int,
     "news": NewsFrame, "pong": Json, "broker": BrokerState, "trouble": "str | None", "program": Mapping[str, int]}, total=False)
 """The fields of all replies and news. Each frame has some of them."""

@@ -33,3 +33,8 @@ class Refused(Exception):
 def not_a_command(why: str) -> Refused:
     """Return the refusal of a malformed command."""
     return Refused("not a command", why)
+
+
+def program_crashed() -> Refused:
+    """Return the refusal of a question on which a program crashed, and the one that replaced it, too."""
+    return Refused("NoProgram", "the program crashed on this twice; the server's log says why")

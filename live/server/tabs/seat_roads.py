@@ -60,7 +60,8 @@ class SeatRoads:
             return {at: await self._know(replica.road) for at, replica in changing.items()}
         known = {at: await self.find_fixed(index, at).know() for at in of if at not in changing}
         known.update(await self._keeper.ask(index, tuple(replica.index for replica in changing.values()), body))
-        return [{"name": call_road(at), "edits": known[at].edits, "demands": known[at].demands} for at in of]
+        return [{"name": call_road(at), "edits": known[at].edits, "demands": known[at].demands, "capacities": list_capacities(known[at].road)}
+                for at in of]
 
     async def _know(self, road: Road) -> KnownRoad:
         """Return a road with all its edits, and the demands that were asked for."""
@@ -105,6 +106,11 @@ class SeatRoads:
 
 def no_preview() -> Refused:
     return Refused("NoPreview", "the two roads of the preview are no longer kept: request a new preview")
+
+
+def list_capacities(road: Road) -> list[int]:
+    """Return the capacities of works on a road, in cars per hour."""
+    return [layer.value[0] for layer in road.layers.values() if not isinstance(layer.value, int)]
 
 
 def call_road(at: str) -> str:

@@ -31,11 +31,11 @@ from pathlib import Path
 from typing import Callable, NamedTuple, Sequence
 
 from ..figures.intervals import CHANCE, warn_few_days
-from ..figures.queues import (WAITING_KEYS, Waits, average_lost, explain_growing, explain_lost, explain_outflow, find_growing, find_inlets,
-                              is_shown, with_bounds, with_lost)
+from ..figures.queues import (WAITING_KEYS, Ends, Waits, average_lost, explain_end, explain_lost, explain_outflow, find_inlets,
+                              is_shown, list_last_cars, with_bounds, with_lost)
 from ..figures.simulation import RoadRun, read_run, simulate_days
 from ..figures.table import PER_LANE, Figure, FigureRow, choose, compare as compare_figures, list_figures, measure_day
-from ..figures.trips import Window
+from ..figures.trips import Window, entry_inlet, entry_step
 from ..program.bars import Bar
 from ..program.checks import is_number
 from ..program.errors import Fault, LabError, describe_error
@@ -43,7 +43,7 @@ from ..program.lab import RoadLab
 from ..reports.outputs import format_window, make_title, prepare_folder, write_csv
 from ..roads.clock import InvalidTime
 from ..roads.control import PERIOD, RampMeter, run_control
-from ..roads.demand import Admission, AdmissionByFlow, BeyondCapacity, measure_by_flow, find_rate
+from ..roads.demand import Admission, AdmissionByFlow, BeyondCapacity, count_demand, measure_by_flow, find_rate
 from ..roads.freeway import Figures, Road, list_free_cells, make_all_roads, measure_chances, widen_inlet, with_lead
 from ..roads.freeway_files import check_names
 from ..roads.road_scripts import Chances, make_plan, make_script
@@ -243,12 +243,27 @@ def compare_runs(site: Site, days: Sequence[Sequence[Metered]]) -> list[FigureRo
     waits = list_waits(days)
     figures = [figure for figure in site.list_figures() if is_shown(figure, find_inlets(waits))]
     rows = compare_figures(figures, [measure_day(figures, *(one.run for one in day)) for day in days])
-    return with_lost([with_bounds(rows, SIDES, waits)], SIDES, list_lost(site, days))[0]
+    return with_lost([with_bounds(rows, SIDES, waits, compare_ends(site, days))], SIDES, list_lost(site, days))[0]
 
 
 def list_waits(days: Sequence[Sequence[Metered]]) -> list[list[Waits]]:
     """Return the queues of each day before the inlets that are not metered."""
     return [[Waits.of(one.run) for one in day] for day in days]
+
+
+def compare_ends(site: Site, days: Sequence[Sequence[Metered]]) -> Ends:
+    """Return the mean number of cars that are on the road or wait before it at the end of a day, without control and with it. A car does not have
+    the same number on both, so all are counted."""
+    before, after = (math.fsum(count_last_cars(site, one.run) for one in side) / len(days) for side in zip(*days))
+    return Ends(before, after, after - before)
+
+
+def count_last_cars(site: Site, run: RoadRun) -> float:
+    """Return the cars that are on a road or wait before it, also at the metered ramp, at the end of a run."""
+    last = run.window.last
+    admitted = sum(entry_inlet(number) == site.inlet and entry_step(number) < last for number in run.trips.left)
+    return (len(list_last_cars(run)) + count_demand(run.demands[site.inlet], 0, last) - admitted
+            + sum(sum(run.list_waiting(inlet)[-1:]) for inlet in run.waiting))
 
 
 def list_lost(site: Site, days: Sequence[Sequence[Metered]]) -> list[dict[str, float]]:
@@ -259,7 +274,7 @@ def list_lost(site: Site, days: Sequence[Sequence[Metered]]) -> list[dict[str, f
 def explain_queues(site: Site, days: Sequence[Sequence[Metered]]) -> list[str]:
     """Return the sentences that the figures of queues need."""
     waits = list_waits(days)
-    return [one for one in (explain_growing(SIDES, find_growing(waits)), *explain_outflow(site.road.drivers, waits),
+    return [one for one in (explain_end(SIDES, waits, compare_ends(site, days)), *explain_outflow(site.road.drivers, waits),
                             explain_lost(SIDES, list_lost(site, days))) if one]
 
 

@@ -113,6 +113,10 @@ class Waits(NamedTuple):
                      arrived * HOUR / (len(steps) * run.seconds) if steps else None)
 
 
+NOBODY_WAITS = Waits(frozenset(), False, None)
+"""The queues of a run in which all cars can enter, or those that cannot enter are lost."""
+
+
 def find_inlets(days: Sequence[Sequence[Waits]]) -> frozenset[int]:
     """Return the inlets before which cars wait on some day of some road."""
     return frozenset().union(*(waits.inlets for day in days for waits in day))
@@ -139,10 +143,16 @@ class Ends(NamedTuple):
 
 
 def compare_ends(before: RoadRun, after: RoadRun) -> Ends:
-    """Compare the cars that are on two roads, or wait before them, at the end of a day."""
-    one, other = ({number for number, left in run.by_arrival.left.items() if left is None} for run in (before, after))
+    """Compare the cars that are on two roads, or wait before them, at the end of a day, which is that of their windows."""
+    one, other = map(list_last_cars, (before, after))
     known = before.by_arrival.left.keys() & after.by_arrival.left.keys()
     return Ends(len(one), len(other), len(other & known) - len(one & known))
+
+
+def list_last_cars(run: RoadRun) -> set[int]:
+    """Return the cars that are on a road, or wait before it, at the end of the window."""
+    last = run.window.last
+    return {number for number, left in run.by_arrival.left.items() if entry_step(number) < last and (left is None or left >= last)}
 
 
 def average_ends(days: Sequence[Ends]) -> Ends:
@@ -169,7 +179,7 @@ def with_bounds(rows: Sequence[FigureRow], names: Sequence[str], days: Sequence[
     def with_bound(row: FigureRow) -> FigureRow:
         key = row.figure.key
         early = [key in GROWING_KEYS and grows or key in HOURS_KEYS and is_late for grows, is_late in zip(grow, ends.is_late)]
-        return dataclasses.replace(row, bound=find_bound(early), words=words if any(early) else "")
+        return dataclasses.replace(row, bound=find_bound(early), words=(words,) if any(early) else ())
     return [with_bound(row) for row in rows]
 
 
@@ -207,8 +217,13 @@ def with_lost(tables: Sequence[Sequence[FigureRow]], names: Sequence[str], lost:
     if not words:
         return [list(rows) for rows in tables]
     pairs = pair_roads([any(of_road.values()) for of_road in lost])
-    return [[dataclasses.replace(row, bound=find_lost_bound(row, lose, lose_equally(rows)) or row.bound, words=f"{row.words} {words}".strip())
+    return [[dataclasses.replace(row, bound=combine_bounds(row.bound, find_lost_bound(row, lose, lose_equally(rows))), words=(*row.words, words))
              if row.figure.key in HOURS_KEYS else row for row in rows] for rows, lose in zip(tables, pairs)]
+
+
+def combine_bounds(one: Bound, other: Bound) -> Bound:
+    """Return how a figure relates to the true one, if two reasons make it a bound or none."""
+    return "unknown" if one and other and one != other else one or other
 
 
 def lose_equally(rows: Sequence[FigureRow]) -> bool:

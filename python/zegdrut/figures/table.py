@@ -297,8 +297,8 @@ class FigureRow:
     """The number of days whose difference has the opposite sign."""
     bound: Bound = ""
     """How the true figure relates to this one, if it is not equal."""
-    words: str = ""
-    """A sentence that the figure needs."""
+    words: tuple[str, ...] = ()
+    """Sentences that the figure needs."""
 
     @property
     def of(self) -> Of:

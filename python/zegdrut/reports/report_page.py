@@ -111,7 +111,7 @@ def make_table_html(sides: Sequence[Side], tables: Sequence[Sequence[FigureRow]]
             f"are known{': the table of calibration shows that' * has_ranges}. "
             f"“{CHANCE}”: the interval of the difference contains 0; a figure that does not differ on any day has no remark. A speed is the mean of the days' time-mean speeds." if days > 1
             else "One day has no interval.")
-    words = [escape_text(one) for one in [ALL_LANES, *sorted({row.words for rows in tables for row in rows if row.words}), *remarks]]
+    words = [escape_text(one) for one in [ALL_LANES, *sorted({one for rows in tables for row in rows for one in row.words}), *remarks]]
     head = [f"{describe_mean(days)}, {PER_LANE}", *(cell for one in heads for cell in one), *([] if has_own_table else [cell for one in differences for cell in one])]
     second = make_grid_html([f"difference from {sides[0].name}, {PER_LANE}", *(cell for one in differences for cell in one)], others) if has_own_table else ""
     return f'{make_grid_html(head, lines)}{second}<p class="note">{" ".join([said, *words])}</p>'
@@ -130,7 +130,7 @@ def make_ranges_html(sides: Sequence[Side], ranges: Sequence[RangeRow], days: in
               *(format_range(one, row.figure, None) for one in row.differences)] for row in ranges]
     said = [f"From the least to the greatest mean of {count_things(days, 'day')} with the drivers of the file and with two others that fit the counts as "
             "well within chance: those with the least and the most delay."] * bool(ranges) + [f"{one[0].upper()}{one[1:]}." for one in sentences]
-    return (make_grid_html(head, lines) if ranges else "") + f'<p class="note">{" ".join(map(escape, said))}</p>' * bool(said)
+    return (make_grid_html(head, lines) if ranges else "") + f'<p class="note">{" ".join(map(escape_text, said))}</p>' * bool(said)
 
 
 def format_mean(value: float | None, figure: Figure, begin: Clock | None) -> str:
