@@ -13,7 +13,7 @@ from zegdrut.figures.trips import Window
 from zegdrut.program.wire import PlanLine
 from zegdrut.reports.report import Side, make_tables, run_sides
 from zegdrut.reports.report_page import Contents, describe_approach, describe_capacities, draw_demands, format_page
-from zegdrut.roads.calibrated import describe_calibration, read_calibration
+from zegdrut.roads.calibrated import describe_calibration, describe_queues, read_calibration
 from zegdrut.roads.clock import Clock
 from zegdrut.roads.demand import Rates
 from zegdrut.roads.units import ALWAYS, KMH, Units, count_things
@@ -45,8 +45,8 @@ ReportAnswer = TypedDict("ReportAnswer", {"html": str, "days": int, "why": str},
 def describe_sureness(calibration: Json, days: int) -> list[str]:
     """Return sentences that say how sure the drivers are and where more is said of that, if `calibrate` wrote a calibration into the file of the
     road. They stand beside figures of some days."""
-    found = describe_calibration(read_calibration(calibration), days)
-    return [*found, *[NO_RANGES] * bool(found)]
+    known = read_calibration(calibration)
+    return [*describe_calibration(known, days), *describe_queues(known), *([NO_RANGES] if known is not None and known.less is not None else [])]
 
 
 def closures_of(edits: Edits, last: int, units: Units) -> list[tuple[int, int, float, float]]:

@@ -40,7 +40,7 @@ from ..program.errors import Fault, LabError, describe_error
 from ..program.programs import program_path
 from ..reports.outputs import prepare_folder
 from ..reports.pictures import draw_points, stack_drawings
-from ..roads.calibrated import Alternative, Calibrated, Leaving
+from ..roads.calibrated import CHANCE_ERROR, MOST_ERROR, Alternative, Calibrated, Leaving
 from ..roads.demand import BeyondCapacity
 from ..roads.freeway import Figures, make_road, measure_chances
 from ..roads.freeway_files import write_road
@@ -62,8 +62,6 @@ SHORT_SEARCH = (f"fewer than {Search.points} points or {Search.days} days: the r
 
 
 BEST_SO_FAR = "the search was ended early, and wrote no file. The best point of each limit so far:"
-CHANCE_ERROR, MOST_ERROR = 2, 5.0
-"""The error that chance alone makes, about, and the error above which the command warns."""
 NEAR_BOUND = 0.05
 """The share of a range within which a result is near the bound of the range."""
 QUANTITIES = ("slowing chance", "slow-to-start chance", "demand factor")
@@ -274,11 +272,14 @@ def run_calibration(given: argparse.Namespace, out: Path) -> None:
                 # The written file has the demand of the first day, rounded. The same file has the same figures in `measured`.
                 own = (FIGURES.override(path), None) if day is measured else (apply_point(road, best), best.factor)
                 congestion = compare_calibrated(given, own[0], day, own[1], f"{what}: {day.clock.date or 'the counts'}")
-                if alternatives is not None and congestion.delay is not None and each is days:
-                    sure = measure_alternatives(given, alternatives, (road, day), best, congestion.delay)
-                    print_lines([describe_alternatives(alternatives, found, sure, congestion)])
+                if congestion.delay is not None and each is days:
+                    sure = None
+                    if alternatives is not None:
+                        sure = measure_alternatives(given, alternatives, (road, day), best, congestion.delay)
+                        print_lines([describe_alternatives(alternatives, found, sure, congestion)])
                     if day is measured:
-                        write_road(path, given.road, dataclasses.replace(calibrated, calibration=sure.to_file(congestion.leaving)))
+                        record = make_record(congestion.delay, sure, congestion.leaving, found)
+                        write_road(path, given.road, dataclasses.replace(calibrated, calibration=record))
     more = "".join(f" {word}" for word in list_count_words(given))
     print(f"The calibrated road, the points and the picture are in {folder}. Compare the road with its counts by "
           f"`recipes/measured/run {path} {given.counts}{more} --demand road`", file=sys.stderr)
@@ -344,10 +345,6 @@ class Sure(NamedTuple):
     less: tuple[Alternative, Both]
     more: tuple[Alternative, Both]
 
-    def to_file(self, leaving: Sequence[Leaving]) -> Calibrated:
-        """Return what the file of the calibrated road has of this and of the flows that leave the jams of the day."""
-        return Calibrated(round(self.delay.simulated, 2), self.less[0], self.more[0], tuple(map(round_flow, leaving)))
-
     def describe(self) -> str:
         """Return the least and the most delay, each with half its 95 % interval, and a remark if the range is on one side of the result."""
         low, *_, high = sorted((self.delay, self.less[1], self.more[1]), key=lambda both: both.simulated)
@@ -355,6 +352,13 @@ class Sure(NamedTuple):
         side = "less" if 0 < own < less else "more" if own > more else ""
         return (f"{format_both(low)} to {format_both(high)} by drivers that fit as well within chance"
                 + f" (points with {side} delay than the result were tried, and fit worse)" * bool(side))
+
+
+def make_record(delay: Both, sure: Sure | None, leaving: Sequence[Leaving], found: Calibration) -> Calibrated:
+    """Return what the file of the calibrated road has of the delay and the jams of the calibrated day."""
+    less, more = (None, None) if sure is None else (sure.less[0], sure.more[0])
+    error = next((round(one.error, 2) for one in found.last if math.isfinite(one.error)), None)
+    return Calibrated(round(delay.simulated, 2), less, more, tuple(map(round_flow, leaving)), round(delay.measured, 2), error)
 
 
 def round_flow(one: Leaving) -> Leaving:

@@ -36,7 +36,7 @@ from ..reports.pictures import INLETS, Chart, Line
 from ..reports.report import (MOST_SIDES, PERIOD, RangeRow, Side, make_flow_series, make_range_records, make_ranges, make_records, make_speed_series,
                               make_tables, run_sides)
 from ..reports.report_page import Contents, describe_approach, describe_capacities, draw_demands, format_page, make_list_html
-from ..roads.calibrated import Alternative, describe_calibration
+from ..roads.calibrated import Alternative, compare_delays, describe_calibration, describe_queues
 from ..roads.capacity import LIMIT as WORKS_LIMIT
 from ..roads.clock import Clock
 from ..roads.demand import BeyondCapacity, find_rate
@@ -195,12 +195,13 @@ def make_sides(request: Request) -> tuple[list[Road], list[Side]]:
 
 
 def list_alternatives(request: Request) -> list[Request]:
-    """Return the requests for all roads with the drivers that fit the counts as well, or none if the roads were not calibrated together."""
+    """Return the requests for all roads with the drivers that fit the counts as well, or none if the roads were not calibrated together or no range is
+    known."""
     calibration = request.figures.calibration
     if calibration is None or any(one.calibration != calibration for one in request.others):
         return []
     return [dataclasses.replace(request, figures=with_drivers(request.figures, drivers), others=[with_drivers(one, drivers) for one in request.others])
-            for drivers in (calibration.less, calibration.more)]
+            for drivers in (calibration.less, calibration.more) if drivers is not None]
 
 
 def with_drivers(figures: Figures, drivers: Alternative) -> Figures:
@@ -216,7 +217,25 @@ def describe_sureness(request: Request, days: int) -> list[str]:
     calibrations = {one.calibration for one in (*request.others, request.figures)}
     if len(calibrations) > 1:
         return ["the files have different calibrations, so this report does not show how far the figures move with drivers that fit the counts as well"]
-    return describe_calibration(request.figures.calibration, days)
+    return [*describe_calibration(request.figures.calibration, days), *describe_queues(request.figures.calibration),
+            *(one for figures in (*request.others, request.figures) for one in compare_works(figures))]
+
+
+def compare_works(figures: Figures) -> list[str]:
+    """Return for each of the works that close a calibrated road or leave a capacity how many times as much they cost as with the measured flow out of
+    their queue, by the formula of a queue. The demand is that at their beginning."""
+    works = [*((f"km {one.first:g} to {one.last:g}", one.first, one.begin, one.capacity) for one in figures.sections if one.capacity is not None),
+             *((f"km {one.at:g}", one.at, one.begin, 0.0) for one in figures.stalled)]
+    found = []
+    for place, km, begin, capacity in works:
+        demand = sum(find_rate(to_rates(demand), to_steps(begin)) for inlet, demand in ((0.0, figures.main), *figures.ramps) if inlet <= km)
+        ratios = [ratio for one in (figures.calibration.leaving if figures.calibration is not None else ())
+                  if (ratio := compare_delays(one, demand, capacity)) is not None]
+        if ratios:
+            times = " to ".join(dict.fromkeys(f"{one:.2f}" for one in (min(ratios), max(ratios))))
+            found.append(f"calibration: by the formula of a queue, the works at {place} from {figures.format_time(begin)} on cost {times} times as much on "
+                         "this road as with the measured flow that leaves a jam")
+    return found
 
 
 def describe_works(figures: Figures) -> list[str]:

@@ -9,6 +9,7 @@
 The free speed of a station is the speed that 85 % of its measured intervals do not exceed. A station interval is congested if its speed
 is below a share of that speed, by default 0.6: with a free speed of 97 km/h (60 mph) this is 58 km/h, close to the 35 mph below which
 Caltrans' Highway Congestion Monitoring Program counts a freeway as congested. As there, a jam lasts at least 15 minutes.
+An interval without a speed does not end it.
 
 In the simulation a station interval is congested if the space-mean speed within 0.15 km of the station is below that share, on at least
 half of the days with a car. Measured speeds are usually time means, which are never below the space mean (Wardrop 1952). So where the
@@ -20,8 +21,7 @@ the jam. A single station says less: on some days a jam of the same drivers does
 speeds also compare means of the same kind.
 
 The flow that leaves a jam decides how long a queue lasts. The head of a jam is between two neighbouring stations if the first one is in a jam and
-the second one is not congested. The flow that leaves it is the flow at the second one in these intervals, if they are 15 minutes or more in
-all. It includes the cars of a ramp between the two. In the simulation the intervals are those of each day, since its jams have other times.
+the second one is not congested for 15 minutes in a row. The flow that leaves it is the flow at the second one in these intervals. It includes the cars of a ramp between the two. In the simulation the intervals are those of each day, since its jams have other times.
 
 Delay and travel time cover the stretch from the first to the last station with speeds. Each station stands for its segment, which ends
 halfway to the next station. The delay of an interval is cars x length x (1 / speed - 1 / free speed), by the cars and the speed at the
@@ -188,32 +188,41 @@ def find_runs(states: Sequence[bool | None], least: int) -> list[tuple[int, int]
     return found
 
 
+def find_congestion(line: Sequence[bool | None], interval: int) -> list[tuple[int, int]]:
+    """Return when a station is congested for as long as a jam lasts at least: the first interval and the one after the last. A shorter time without a
+    known speed between two congested intervals does not end it."""
+    least, bridged = math.ceil(SHORTEST_JAM / interval), list(line)
+    for begin, end in find_runs([state is None for state in line], 1):
+        if 0 < begin and end < len(line) and line[begin - 1] and line[end] and end - begin < least:
+            bridged[begin:end] = [True] * (end - begin)
+    return find_runs(bridged, least)
+
+
 def find_jams(states: States, interval: int) -> list[Jam]:
-    """Return the jams. Runs of congested intervals at neighbouring stations belong to one jam if they overlap in time."""
-    least = math.ceil(SHORTEST_JAM / interval)
+    """Return the jams. The congestion of neighbouring stations belongs to one jam if it overlaps in time."""
     jams: list[list[tuple[int, int, int]]] = []
     for index, line in enumerate(states):
-        for begin, end in find_runs(line, least):
+        for begin, end in find_congestion(line, interval):
             near = [jam for jam in jams if any(index - other == 1 and begin < until and since < end for other, since, until in jam)]
             jams = [jam for jam in jams if jam not in near] + [[run for jam in near for run in jam] + [(index, begin, end)]]
-    return sorted((make_jam(jam) for jam in jams), key=lambda jam: (jam.begin, jam.first))
+    return sorted((make_jam(jam, states) for jam in jams), key=lambda jam: (jam.begin, jam.first))
 
 
 def describe_congested_demand(measured: Measured, share: float = CONGESTED) -> list[str]:
     """Return a sentence if the station that gives the demand is congested: what it counts then is the flow of the jam, not the demand."""
     first, clock = measured.main[0], measured.clock
     bound = share * (find_free_speed(first) or 0.0)
-    runs = find_runs([speed is not None and speed < bound for speed in first.speeds], math.ceil(SHORTEST_JAM / measured.interval))
+    runs = find_congestion([None if speed is None else speed < bound for speed in first.speeds], measured.interval)
     times = " and from ".join(f"{clock.to_text(begin * measured.interval)} to {clock.to_text(end * measured.interval)}" for begin, end in runs)
     return [f"station {first.station.name} gives the demand, and is itself congested from {times}: its counts are then what the jam lets through, "
             "so the demand is too low. Use a station farther upstream, or a window that ends before"] if runs else []
 
 
-def make_jam(runs: Sequence[tuple[int, int, int]]) -> Jam:
-    """Make a jam of runs, each with its station, its first interval and the one after its last."""
+def make_jam(runs: Sequence[tuple[int, int, int]], states: States) -> Jam:
+    """Make a jam of runs, each with its station, its first interval and the one after its last. It has their intervals with a known state."""
     stations, begins, ends = zip(*runs)
     return Jam(min(stations), max(stations), min(begins), max(ends),
-               [(index, place) for index, begin, end in runs for place in range(begin, end)])
+               [(index, place) for index, begin, end in runs for place in range(begin, end) if states[index][place] is not None])
 
 
 def describe_jams(found: Judgement, measured: Measured) -> list[str]:
@@ -229,9 +238,13 @@ def describe_jams(found: Judgement, measured: Measured) -> list[str]:
         name = name_jam("the simulation has a jam from", jam, clock, names, found.interval)
         if not known:
             sentences.append(f"{name}, where no speed was measured")
+        elif told.intersection(jam.places):
+            if sum(known) < MOST * len(known):
+                sentences.append(f"{name_jam('the simulated jam lasts from', jam, clock, names, found.interval)}, and the counts are congested in "
+                                 f"{sum(known)} of its {count_things(len(known), 'station interval')}: {describe_speeds(jam, found, measured)}{note_time_means(measured)}")
         elif sum(known) < LEAST * len(known):
             sentences.append(f"{name} {judge_speeds(jam, found, measured)}")
-        elif not told.intersection(jam.places):
+        else:
             sentences.append(f"{name}: the counts are congested in {sum(known)} of its {count_things(len(known), 'station interval')}, but never for "
                              f"{SHORTEST_JAM // 60} minutes in a row")
     return [*(sentences or [describe_free_traffic(found, clock, names)]), *([] if jams else suggest_share(found, measured))]
@@ -262,16 +275,29 @@ def average_speeds(places: Sequence[tuple[int, int]], found: Judgement, measured
     return MeanSpeeds(free, known, [fmean(day[index][place] or 0.0 for index, place in places) for day in found.by_day])
 
 
+def list_known(jam: Jam, measured: Measured) -> list[tuple[int, int]]:
+    """Return the station intervals of a jam in which a speed was measured."""
+    return [(index, place) for index, place in jam.places if measured.main[index + 1].speeds[place] is not None]
+
+
 def judge_speeds(jam: Jam, found: Judgement, measured: Measured) -> str:
-    """Return whether the counts rule out a simulated jam in which they are not congested, with the speeds of each station."""
-    places = [(index, place) for index, place in jam.places if measured.main[index + 1].speeds[place] is not None]
-    speeds, stations = average_speeds(places, found, measured), sorted({index for index, _ in places})
-    by_station = [f"{average_speeds([one for one in places if one[0] == index], found, measured).describe()} at station "
-                  f"{measured.main[index + 1].station.name}" for index in stations]
-    said = f"{measured.mean} speeds are {', '.join(by_station)}, with a free speed of {speeds.free:.0f} km/h"
-    if speeds.is_less_deep:
-        return f"that was not measured: {said}"
-    return f"that the counts do not rule out: {said}" + ("" if measured.mean == SPACE_MEAN else ". In the model such speeds hardly show a jam")
+    """Return whether the counts rule out a simulated jam in which they are not congested, with its speeds."""
+    if average_speeds(list_known(jam, measured), found, measured).is_less_deep:
+        return f"that was not measured: {describe_speeds(jam, found, measured)}"
+    return f"that the counts do not rule out: {describe_speeds(jam, found, measured)}{note_time_means(measured)}"
+
+
+def note_time_means(measured: Measured) -> str:
+    """Return a remark if the speeds are time means."""
+    return "" if measured.mean == SPACE_MEAN else ". In the model such speeds hardly show a jam"
+
+
+def describe_speeds(jam: Jam, found: Judgement, measured: Measured) -> str:
+    """Return the speeds of each station in a simulated jam, measured and simulated."""
+    known = list_known(jam, measured)
+    by_station = [f"{average_speeds([one for one in known if one[0] == index], found, measured).describe()} at station "
+                  f"{measured.main[index + 1].station.name}" for index in sorted({index for index, _ in known})]
+    return f"{measured.mean} speeds are {', '.join(by_station)}, with a free speed of {average_speeds(known, found, measured).free:.0f} km/h"
 
 
 def suggest_share(found: Judgement, measured: Measured) -> list[str]:
@@ -340,11 +366,13 @@ def compare_leaving(measured: Measured, days: Sequence[JudgedDay], share: float 
 
 
 def compute_leaving(states: States, index: int, cars: Sequence[float | None], interval: int) -> float | None:
-    """Return the flow of the cars that pass the station after a station in cars per hour, while the head of a jam is between the two. Return None
-    if this is shorter than a jam."""
+    """Return the flow of the cars that pass the station after a station in cars per hour, while the head of a jam is between the two: the first
+    one is in a jam, and the second one is free for as long as a jam lasts at least. (A station inside the jam may seem free in single intervals.) Return
+    None if this is shorter than a jam."""
     least = math.ceil(SHORTEST_JAM / interval)
-    left = [count for begin, end in find_runs(states[index], least) for place in range(begin, end)
-            if states[index + 1][place] is False and (count := cars[place]) is not None]
+    in_jam = {place for run in find_congestion(states[index], interval) for place in range(*run)}
+    is_head = [place in in_jam and state is False for place, state in enumerate(states[index + 1])]
+    left = [count for run in find_runs(is_head, least) for place in range(*run) if (count := cars[place]) is not None]
     return math.fsum(left) / len(left) * HOUR / interval if len(left) >= least else None
 
 

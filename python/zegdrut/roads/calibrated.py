@@ -1,7 +1,9 @@
 """Describe how sure the drivers of a calibrated road are: what `calibrate` writes into the field `calibration` of its file.
 
 The field has the drivers that fit the measured counts as well within chance and cause the least and the most delay, and the flows that
-leave the jams of the calibrated day, measured and simulated. The flow that leaves a jam decides how long queues last, also those of works.
+leave the jams of the calibrated day, measured and simulated. The flow that leaves a jam decides how long queues last, also those of works: if works
+leave a capacity c of a demand q for a time T, and their queue then leaves with a flow s, the delay is (q - c) (s - c) T^2 / (2 (s - q)). A closure has
+the capacity 0.
 """
 from __future__ import annotations
 
@@ -10,6 +12,8 @@ from typing import NamedTuple, Sequence, cast
 from ..program.checks import is_number
 from ..program.wire import Json
 
+CHANCE_ERROR, MOST_ERROR = 2, 5.0
+"""The error of a calibration that chance alone makes, about, and the error above which the road does not fit its counts."""
 LEAVING_ERROR = 0.05
 """Flows that leave a jam agree if they differ by less. Counts are right to about this. In the shortest jam some 375 cars leave on a lane. If their
 headways vary by half of the mean, this number varies by 0.5 / sqrt(375) = 2.6 % by chance, and 5 % are about twice that."""
@@ -37,34 +41,44 @@ class Leaving(NamedTuple):
 
 
 class Calibrated(NamedTuple):
-    """The delay that the drivers of the file cause on the calibrated day in vehicle hours per lane, of the other drivers that fit as well those
-    with the least and the most delay, and the flows that leave the jams of that day with the drivers of the file."""
+    """The delay that the drivers of the file cause on the calibrated day in vehicle hours per lane; of the other drivers that fit as well those
+    with the least and the most delay (both None if no range is known); the flows that leave the jams of that day with the drivers of the file; the
+    delay that is estimated from the measured speeds of its stations; and the error of these drivers."""
 
     delay: float
-    less: Alternative
-    more: Alternative
+    less: Alternative | None
+    more: Alternative | None
     leaving: tuple[Leaving, ...] = ()
+    measured: float | None = None
+    error: float | None = None
 
 
 # In a file
 
 def write_calibration(calibration: Calibrated) -> Json:
     """Return the field of a file."""
-    return {"delay": calibration.delay, "less": calibration.less._asdict(), "more": calibration.more._asdict(),
-            "leaving": [one._asdict() for one in calibration.leaving]}
+    less, more = (None if one is None else one._asdict() for one in (calibration.less, calibration.more))
+    return {**calibration._asdict(), "less": less, "more": more, "leaving": [one._asdict() for one in calibration.leaving]}
+
+
+OPTIONAL = {"leaving", "measured", "error"}
+"""The fields that may be missing."""
 
 
 def read_calibration(value: Json) -> Calibrated | None:
-    """Return what `calibrate` wrote, or None if a value is something else. The flows may be missing."""
-    given = value if isinstance(value, dict) and set(value) | {"leaving"} == set(Calibrated._fields) else {}
-    both = [one for one in (given.get("less"), given.get("more")) if isinstance(one, dict) and set(one) == set(Alternative._fields)]
-    numbers = [given.get("delay"), *(number for one in both for number in one.values())]
+    """Return what `calibrate` wrote, or None if a value is something else."""
+    given = value if isinstance(value, dict) and set(value) | OPTIONAL == set(Calibrated._fields) else {"delay": None}
+    both = [given.get("less"), given.get("more")]
+    drivers = [one for one in both if isinstance(one, dict) and set(one) == set(Alternative._fields)]
+    numbers = [given["delay"], *(one for name in ("measured", "error") if (one := given.get(name)) is not None),
+               *(number for one in drivers for number in one.values())]
     flows = given.get("leaving", [])
     leaving = list(map(read_leaving, flows)) if isinstance(flows, list) else [None]
-    if len(both) < 2 or not all(is_number(number) and number >= 0 for number in numbers) or None in leaving:
+    if both not in ([None, None], drivers) or not all(is_number(number) and number >= 0 for number in numbers) or None in leaving:
         return None
-    less, more = (Alternative(**cast("dict[str, float]", one)) for one in both)
-    return Calibrated(cast(float, given["delay"]), less, more, tuple(one for one in leaving if one is not None))
+    less, more = (Alternative(**cast("dict[str, float]", one)) for one in drivers) if drivers else (None, None)
+    return Calibrated(cast(float, given["delay"]), less, more, tuple(one for one in leaving if one is not None),
+                      *cast("list[float | None]", [given.get("measured"), given.get("error")]))
 
 
 def read_leaving(value: Json) -> Leaving | None:
@@ -86,15 +100,41 @@ NO_LEAVING = "calibration: the counts do not show the flow that leaves a jam, so
 def describe_calibration(calibration: Calibrated | None, days: int) -> list[str]:
     """Return sentences that say how sure the drivers of a calibrated road are, beside figures of some days: only those of several days have ±."""
     return [] if calibration is None else [
-        f"calibration: {format_range(calibration)} vehicle hours of delay per lane on the calibrated day by drivers that fit its counts equally well "
-        f"within chance, and {calibration.delay:.1f} by those of the file{': ± does not include this' * (days > 1)}",
-        *([f"calibration: {one}" for one in describe_leaving(calibration.leaving)] or [NO_LEAVING])]
+        *describe_misfit(calibration), f"calibration: {describe_delays(calibration)}{': ± does not include this' * (days > 1)}"]
 
 
-def format_range(calibration: Calibrated) -> str:
-    """Return the delays of drivers that fit equally well, from the least to the most."""
-    low, *_, high = sorted((calibration.delay, calibration.less.delay, calibration.more.delay))
-    return f"{low:.1f} to {high:.1f}"
+def describe_queues(calibration: Calibrated | None) -> list[str]:
+    """Return sentences that say whether queues of a calibrated road last as long as measured."""
+    return [] if calibration is None else [f"calibration: {one}" for one in describe_leaving(calibration.leaving)] or [NO_LEAVING]
+
+
+def describe_misfit(calibration: Calibrated) -> list[str]:
+    """Return a sentence if the drivers of a file do not fit the counts."""
+    return [] if calibration.error is None or calibration.error <= MOST_ERROR else [
+        f"calibration: the error of the drivers of the file is {calibration.error:.1f}, but about {CHANCE_ERROR} is as good as chance allows: this road does "
+        "not fit the counts of the calibrated day"]
+
+
+def describe_delays(calibration: Calibrated) -> str:
+    """Return the delays of the calibrated day: with drivers that fit equally well, from the least to the most, with those of the file, and measured."""
+    what = "vehicle hours of delay per lane on the calibrated day"
+    if calibration.less is None or calibration.more is None:
+        parts = [f"no range of the delay is known. {calibration.delay:.1f} {what} by the drivers of the file"]
+    else:
+        low, *_, high = sorted((calibration.delay, calibration.less.delay, calibration.more.delay))
+        parts = [f"{low:.1f} to {high:.1f} {what} by drivers that fit its counts equally well within chance", f"{calibration.delay:.1f} by those of the file"]
+    if calibration.measured is not None:
+        parts.append(f"{calibration.measured:.1f} estimated from the measured speeds of its stations")
+    return ", and ".join(filter(None, [", ".join(parts[:-1]), parts[-1]]))
+
+
+def compare_delays(one: Leaving, demand: float, capacity: float) -> float | None:
+    """Return the delay of works on the simulated road divided by that with the measured flow out of their queue, for a demand and a capacity in cars per
+    hour. None: there is no queue, or it never ends."""
+    if one.simulated is None or not capacity < demand < min(one.measured, one.simulated):
+        return None
+    simulated, measured = ((flow - capacity) / (flow - demand) for flow in (one.simulated, one.measured))
+    return simulated / measured
 
 
 def describe_leaving(found: Sequence[Leaving]) -> list[str]:
