@@ -272,13 +272,13 @@ def run_calibration(given: argparse.Namespace, out: Path) -> None:
                 # The written file has the demand of the first day, rounded. The same file has the same figures in `measured`.
                 own = (FIGURES.override(path), None) if day is measured else (apply_point(road, best), best.factor)
                 congestion = compare_calibrated(given, own[0], day, own[1], f"{what}: {day.clock.date or 'the counts'}")
-                if congestion.delay is not None and each is days:
+                if each is days:
                     sure = None
-                    if alternatives is not None:
+                    if alternatives is not None and congestion.delay is not None:
                         sure = measure_alternatives(given, alternatives, (road, day), best, congestion.delay)
                         print_lines([describe_alternatives(alternatives, found, sure, congestion)])
                     if day is measured:
-                        record = make_record(congestion.delay, sure, congestion.leaving, found)
+                        record = make_record(congestion, sure, found)
                         write_road(path, given.road, dataclasses.replace(calibrated, calibration=record))
     more = "".join(f" {word}" for word in list_count_words(given))
     print(f"The calibrated road, the points and the picture are in {folder}. Compare the road with its counts by "
@@ -354,11 +354,14 @@ class Sure(NamedTuple):
                 + f" (points with {side} delay than the result were tried, and fit worse)" * bool(side))
 
 
-def make_record(delay: Both, sure: Sure | None, leaving: Sequence[Leaving], found: Calibration) -> Calibrated:
-    """Return what the file of the calibrated road has of the delay and the jams of the calibrated day."""
+def make_record(congestion: Congestion, sure: Sure | None, found: Calibration) -> Calibrated | None:
+    """Return what the file of the calibrated road has of the delay and the jams of the calibrated day, or None if the counts have no speeds."""
+    if congestion.delay is None or congestion.delay_at_stations is None:
+        return None
     less, more = (None, None) if sure is None else (sure.less[0], sure.more[0])
-    error = next((round(one.error, 2) for one in found.last if math.isfinite(one.error)), None)
-    return Calibrated(round(delay.simulated, 2), less, more, tuple(map(round_flow, leaving)), round(delay.measured, 2), error)
+    own = found.last[0].error if found.last else math.inf
+    return Calibrated(round(congestion.delay.simulated, 2), less, more, tuple(map(round_flow, congestion.leaving)), round(congestion.delay.measured, 2),
+                      round(congestion.delay_at_stations.simulated, 2), round(own, 2) if math.isfinite(own) else None)
 
 
 def round_flow(one: Leaving) -> Leaving:

@@ -259,10 +259,11 @@ def compare_ends(site: Site, days: Sequence[Sequence[Metered]]) -> Ends:
 
 
 def count_last_cars(site: Site, run: RoadRun) -> float:
-    """Return the cars that are on a road or wait before it, also at the metered ramp, at the end of a run."""
+    """Return the cars that are on a road or wait before it, also at the metered ramp, at the end of a run. By chance more cars may have entered at the ramp
+    than its demand: nobody waits there then."""
     last = run.window.last
     admitted = sum(entry_inlet(number) == site.inlet and entry_step(number) < last for number in run.trips.left)
-    return (len(list_last_cars(run)) + count_demand(run.demands[site.inlet], 0, last) - admitted
+    return (len(list_last_cars(run)) + max(count_demand(run.demands[site.inlet], 0, last) - admitted, 0.0)
             + sum(sum(run.list_waiting(inlet)[-1:]) for inlet in run.waiting))
 
 

@@ -14,6 +14,7 @@ from __future__ import annotations
 import argparse
 import csv
 import dataclasses
+import math
 import sys
 from dataclasses import dataclass
 from html import escape
@@ -39,7 +40,7 @@ from ..reports.report_page import Contents, describe_approach, describe_capaciti
 from ..roads.calibrated import Alternative, compare_delays, describe_calibration, describe_queues
 from ..roads.capacity import LIMIT as WORKS_LIMIT
 from ..roads.clock import Clock
-from ..roads.demand import BeyondCapacity, find_rate
+from ..roads.demand import BeyondCapacity, count_demand, find_rate
 from ..roads.freeway import Figures, Road, make_all_roads, measure_chances, to_rates, warm_up_minutes, widen_inlets, with_warm_up
 from ..roads.freeway_files import Demand
 from ..roads.road_scripts import make_script
@@ -218,23 +219,26 @@ def describe_sureness(request: Request, days: int) -> list[str]:
     if len(calibrations) > 1:
         return ["the files have different calibrations, so this report does not show how far the figures move with drivers that fit the counts as well"]
     return [*describe_calibration(request.figures.calibration, days), *describe_queues(request.figures.calibration),
-            *(one for figures in (*request.others, request.figures) for one in compare_works(figures))]
+            *(one for name, figures in zip(request.names, (*request.others, request.figures))
+              for one in compare_works(figures, f" of the road {name}" if request.others else ""))]
 
 
-def compare_works(figures: Figures) -> list[str]:
+def compare_works(figures: Figures, of_road: str = "") -> list[str]:
     """Return for each of the works that close a calibrated road or leave a capacity how many times as much they cost as with the measured flow out of
-    their queue, by the formula of a queue. The demand is that at their beginning."""
-    works = [*((f"km {one.first:g} to {one.last:g}", one.first, one.begin, one.capacity) for one in figures.sections if one.capacity is not None),
-             *((f"km {one.at:g}", one.at, one.begin, 0.0) for one in figures.stalled)]
-    found = []
-    for place, km, begin, capacity in works:
-        demand = sum(find_rate(to_rates(demand), to_steps(begin)) for inlet, demand in ((0.0, figures.main), *figures.ramps) if inlet <= km)
-        ratios = [ratio for one in (figures.calibration.leaving if figures.calibration is not None else ())
-                  if (ratio := compare_delays(one, demand, capacity)) is not None]
+    their queue, by the formula of a queue. The demand is the mean while they last, of all inlets up to their end."""
+    works = [*((f"km {one.first:g} to {one.last:g}", one.last, one.begin, one.end, one.capacity) for one in figures.sections if one.capacity is not None),
+             *((f"km {one.at:g}", one.at, one.begin, one.end, 0.0) for one in figures.stalled)]
+    flows, found = (figures.calibration.leaving or () if figures.calibration is not None else ()), []
+    for place, last, begin, end, capacity in works:
+        cars = sum(count_demand(to_rates(demand), to_steps(begin), to_steps(end)) for km, demand in ((0.0, figures.main), *figures.ramps) if km <= last)
+        demand = cars / (end - begin) * 60
+        ratios = [ratio for one in flows if (ratio := compare_delays(one, demand, capacity)) is not None]
         if ratios:
+            named = f"the works{of_road} at {place} from {figures.format_time(begin)} on, with a demand of {demand:,.0f} cars/h,"
             times = " to ".join(dict.fromkeys(f"{one:.2f}" for one in (min(ratios), max(ratios))))
-            found.append(f"calibration: by the formula of a queue, the works at {place} from {figures.format_time(begin)} on cost {times} times as much on "
-                         "this road as with the measured flow that leaves a jam")
+            what = (f"the queue of {named} never ends on this road, but would end" if max(ratios) == math.inf else
+                    f"{named} cost {times} times as much on this road as")
+            found.append(f"calibration: by the formula of a queue, {what} with the measured flow that leaves a jam")
     return found
 
 

@@ -137,9 +137,9 @@ class Ends(NamedTuple):
 
     @property
     def is_late(self) -> list[bool]:
-        """Return for each road whether its run ends too early: whether it has more cars than the other one, beyond the chance of a day."""
+        """Return for each road whether its run ends too early: whether it has more cars than the other one, at least one, beyond the chance of a day."""
         chance = 2 * math.sqrt(min(self.before, self.after))
-        return [-self.more > chance, self.more > chance]
+        return [more > chance and more >= 1 for more in (-self.more, self.more)]
 
 
 def compare_ends(before: RoadRun, after: RoadRun) -> Ends:

@@ -9,7 +9,7 @@
 The free speed of a station is the speed that 85 % of its measured intervals do not exceed. A station interval is congested if its speed
 is below a share of that speed, by default 0.6: with a free speed of 97 km/h (60 mph) this is 58 km/h, close to the 35 mph below which
 Caltrans' Highway Congestion Monitoring Program counts a freeway as congested. As there, a jam lasts at least 15 minutes.
-An interval without a speed does not end it.
+A shorter time without a speed does not end it.
 
 In the simulation a station interval is congested if the space-mean speed within 0.15 km of the station is below that share, on at least
 half of the days with a car. Measured speeds are usually time means, which are never below the space mean (Wardrop 1952). So where the
@@ -269,10 +269,13 @@ class MeanSpeeds(NamedTuple):
 
 
 def average_speeds(places: Sequence[tuple[int, int]], found: Judgement, measured: Measured) -> MeanSpeeds:
-    """Return the mean speeds over station intervals with a measured speed. A station that no simulated car passes has the speed 0."""
+    """Return the mean speeds over station intervals with a measured speed. A day on which no car passes a station has the mean of the other days, and 0 if
+    none passes it on any day."""
     speeds = [(find_free_speed(measured.main[index + 1]) or 0.0, measured.main[index + 1].speeds[place] or 0.0) for index, place in places]
     free, known = (fmean(values) for values in zip(*speeds))
-    return MeanSpeeds(free, known, [fmean(day[index][place] or 0.0 for index, place in places) for day in found.by_day])
+    lines = [[day[index][place] for day in found.by_day] for index, place in places]
+    filled = [[mean if speed is None else speed for speed in line] for line in lines for mean in [average_known(line) or 0.0]]
+    return MeanSpeeds(free, known, [fmean(day) for day in zip(*filled)])
 
 
 def list_known(jam: Jam, measured: Measured) -> list[tuple[int, int]]:
@@ -360,7 +363,7 @@ def compare_leaving(measured: Measured, days: Sequence[JudgedDay], share: float 
         flow = compute_leaving(known, index, following.cars, interval)
         flows = [compute_leaving(states, index, [passed.cars for passed in day.passed[index + 1]], interval) for states, day in zip(drawn, days)]
         jammed = [each for each in flows if each is not None]
-        if flow is not None:
+        if flow:  # (nothing leaves a road that is closed)
             found.append(Leaving(one.station.name, following.station.name, flow, *(estimate_days(jammed) if jammed else (None, None))))
     return found
 

@@ -7,6 +7,7 @@ the capacity 0.
 """
 from __future__ import annotations
 
+import math
 from typing import NamedTuple, Sequence, cast
 
 from ..program.checks import is_number
@@ -42,14 +43,16 @@ class Leaving(NamedTuple):
 
 class Calibrated(NamedTuple):
     """The delay that the drivers of the file cause on the calibrated day in vehicle hours per lane; of the other drivers that fit as well those
-    with the least and the most delay (both None if no range is known); the flows that leave the jams of that day with the drivers of the file; the
-    delay that is estimated from the measured speeds of its stations; and the error of these drivers."""
+    with the least and the most delay (both None if no range is known); the flows that leave the jams of that day with the drivers of the file (None in a
+    file of an earlier version); the delay of that day that is estimated from the speeds at its stations, measured and simulated; and the error of these
+    drivers."""
 
     delay: float
     less: Alternative | None
     more: Alternative | None
-    leaving: tuple[Leaving, ...] = ()
+    leaving: tuple[Leaving, ...] | None = None
     measured: float | None = None
+    at_stations: float | None = None
     error: float | None = None
 
 
@@ -58,10 +61,10 @@ class Calibrated(NamedTuple):
 def write_calibration(calibration: Calibrated) -> Json:
     """Return the field of a file."""
     less, more = (None if one is None else one._asdict() for one in (calibration.less, calibration.more))
-    return {**calibration._asdict(), "less": less, "more": more, "leaving": [one._asdict() for one in calibration.leaving]}
+    return {**calibration._asdict(), "less": less, "more": more, "leaving": [one._asdict() for one in calibration.leaving or ()]}
 
 
-OPTIONAL = {"leaving", "measured", "error"}
+OPTIONAL = {"leaving", "measured", "at_stations", "error"}
 """The fields that may be missing."""
 
 
@@ -70,15 +73,16 @@ def read_calibration(value: Json) -> Calibrated | None:
     given = value if isinstance(value, dict) and set(value) | OPTIONAL == set(Calibrated._fields) else {"delay": None}
     both = [given.get("less"), given.get("more")]
     drivers = [one for one in both if isinstance(one, dict) and set(one) == set(Alternative._fields)]
-    numbers = [given["delay"], *(one for name in ("measured", "error") if (one := given.get(name)) is not None),
+    numbers = [given["delay"], *(one for name in ("measured", "at_stations", "error") if (one := given.get(name)) is not None),
                *(number for one in drivers for number in one.values())]
     flows = given.get("leaving", [])
     leaving = list(map(read_leaving, flows)) if isinstance(flows, list) else [None]
     if both not in ([None, None], drivers) or not all(is_number(number) and number >= 0 for number in numbers) or None in leaving:
         return None
     less, more = (Alternative(**cast("dict[str, float]", one)) for one in drivers) if drivers else (None, None)
-    return Calibrated(cast(float, given["delay"]), less, more, tuple(one for one in leaving if one is not None),
-                      *cast("list[float | None]", [given.get("measured"), given.get("error")]))
+    known = tuple(one for one in leaving if one is not None) if "leaving" in given else None
+    return Calibrated(cast(float, given["delay"]), less, more, known,
+                      *cast("list[float | None]", [given.get(name) for name in ("measured", "at_stations", "error")]))
 
 
 def read_leaving(value: Json) -> Leaving | None:
@@ -95,6 +99,7 @@ def read_leaving(value: Json) -> Leaving | None:
 # In sentences
 
 NO_LEAVING = "calibration: the counts do not show the flow that leaves a jam, so nothing says whether queues of this road last as long as real ones"
+OLD_FILE = "calibration: the file does not say whether queues of this road last as long as real ones: calibrate the road again"
 
 
 def describe_calibration(calibration: Calibrated | None, days: int) -> list[str]:
@@ -105,7 +110,9 @@ def describe_calibration(calibration: Calibrated | None, days: int) -> list[str]
 
 def describe_queues(calibration: Calibrated | None) -> list[str]:
     """Return sentences that say whether queues of a calibrated road last as long as measured."""
-    return [] if calibration is None else [f"calibration: {one}" for one in describe_leaving(calibration.leaving)] or [NO_LEAVING]
+    if calibration is None:
+        return []
+    return [OLD_FILE] if calibration.leaving is None else [f"calibration: {one}" for one in describe_leaving(calibration.leaving)] or [NO_LEAVING]
 
 
 def describe_misfit(calibration: Calibrated) -> list[str]:
@@ -116,23 +123,27 @@ def describe_misfit(calibration: Calibrated) -> list[str]:
 
 
 def describe_delays(calibration: Calibrated) -> str:
-    """Return the delays of the calibrated day: with drivers that fit equally well, from the least to the most, with those of the file, and measured."""
+    """Return the delays of the calibrated day: with drivers that fit equally well, from the least to the most, with those of the file, and those that are
+    estimated from the speeds at stations."""
     what = "vehicle hours of delay per lane on the calibrated day"
     if calibration.less is None or calibration.more is None:
         parts = [f"no range of the delay is known. {calibration.delay:.1f} {what} by the drivers of the file"]
     else:
         low, *_, high = sorted((calibration.delay, calibration.less.delay, calibration.more.delay))
         parts = [f"{low:.1f} to {high:.1f} {what} by drivers that fit its counts equally well within chance", f"{calibration.delay:.1f} by those of the file"]
-    if calibration.measured is not None:
-        parts.append(f"{calibration.measured:.1f} estimated from the measured speeds of its stations")
-    return ", and ".join(filter(None, [", ".join(parts[:-1]), parts[-1]]))
+    said = ", and ".join(parts)
+    if calibration.measured is None or calibration.at_stations is None:
+        return said
+    return f"{said} (estimated from speeds at stations: {calibration.measured:.1f} measured, and {calibration.at_stations:.1f} by the drivers of the file)"
 
 
 def compare_delays(one: Leaving, demand: float, capacity: float) -> float | None:
     """Return the delay of works on the simulated road divided by that with the measured flow out of their queue, for a demand and a capacity in cars per
-    hour. None: there is no queue, or it never ends."""
-    if one.simulated is None or not capacity < demand < min(one.measured, one.simulated):
+    hour: infinity if only the simulated queue never ends. None: there is no queue, or it would never end."""
+    if one.simulated is None or not capacity < demand < one.measured:
         return None
+    if one.simulated <= demand:
+        return math.inf
     simulated, measured = ((flow - capacity) / (flow - demand) for flow in (one.simulated, one.measured))
     return simulated / measured
 
