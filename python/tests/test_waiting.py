@@ -6,7 +6,7 @@ import unittest
 
 from zegdrut import Plan, RoadLab
 from zegdrut.figures import RoadRun, read_run
-from zegdrut.figures.queues import Waits, explain_outflow
+from zegdrut.figures.queues import Ends, Waits, explain_end, explain_outflow
 from zegdrut.figures.trips import Trips, Window, compute_delay
 from zegdrut.program.scripts import Script
 from zegdrut.program.wire import Fields
@@ -162,6 +162,20 @@ class Waiting(unittest.TestCase):
                              dict.fromkeys(["delay, vehicle hours", "vehicle hours on the road"], bound))
             self.assertEqual({one.partition(" The figures")[0] for row in rows for one in row.words},
                              {f"The run ends too early: at its end the road closed has {more} more cars than the road open."})
+
+    def test_cars_wait_or_are_late(self) -> None:
+        """A sentence names each road on which the run ends too early, once: because cars wait, or else because at least one more car is there, beyond
+        chance."""
+        waiting, none = Waits(frozenset({0}), True, None), Waits(frozenset(), False, None)
+        waits, late = "Cars still wait at the end on the road {}: the figures of delay and waiting do not include what these cars lose later.", (
+            "The run ends too early: at its end the road {} has {} than the road {}. The figures of delay do not include what these cars lose later: let the run end "
+            "later.")
+        for day, ends, wanted in (
+                ([waiting, none], Ends(9, 40, 30), f"{waits.format('a')} {late.format('b', '30 more cars', 'a')}"),
+                ([none, waiting], Ends(9, 40, 30), waits.format("b")), ([none, none], Ends(9, 40, 30), late.format("b", "30 more cars", "a")),
+                ([none, none], Ends(40, 9, -7), late.format("a", "7 more cars", "b")), ([none, none], Ends(9, 40, 6), ""),
+                ([none, none], Ends(0, 0.2, 0.2), ""), ([none, none], Ends(0, 1, 1), late.format("b", "1 more car", "a"))):
+            self.assertEqual(explain_end(["a", "b"], [day], ends), wanted)
 
     def test_cars_that_nobody_knows(self) -> None:
         """Cars that enter although nobody arrived keep their numbers, and no two cars get one number. Each car is on the road in the rows after

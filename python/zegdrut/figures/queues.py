@@ -163,12 +163,14 @@ def average_ends(days: Sequence[Ends]) -> Ends:
 def explain_end(names: Sequence[str], days: Sequence[Sequence[Waits]], ends: Ends) -> str:
     """Return a sentence that says on which road the run ends too early: cars still wait in its last row, or they are late there. An empty string if
     on none."""
-    words = explain_growing(names, find_growing(days))
-    if words or not any(ends.is_late):
+    grow = find_growing(days)
+    words = explain_growing(names, grow)
+    if not any(is_late and not grows for is_late, grows in zip(ends.is_late, grow)):
         return words
     there, here = names if ends.more > 0 else reversed(names)
-    return (f"The run ends too early: at its end the road {here} has {count_things(round(abs(ends.more)), 'more car')} than the road {there}. The figures of "
+    late = (f"The run ends too early: at its end the road {here} has {count_things(round(abs(ends.more)), 'more car')} than the road {there}. The figures of "
             "delay do not include what these cars lose later: let the run end later.")
+    return f"{words} {late}".strip()
 
 
 def with_bounds(rows: Sequence[FigureRow], names: Sequence[str], days: Sequence[Sequence[Waits]], ends: Ends = Ends()) -> list[FigureRow]:
