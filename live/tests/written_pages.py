@@ -104,6 +104,7 @@ class Reports(Case):
         freeway file that was calibrated there is no such sentence."""
         elsewhere = (" This report has no table of how far the figures move with drivers that fit as well: the report that <code>python3 -m zegdrut report</code> "
                      "writes of the freeway file has one, for the works of that file.")
+        earlier = " Calibration: the file does not say whether queues of this road last as long as real ones: calibrate the road again."
         no_jam = " Calibration: the counts do not show the flow that leaves a jam, so nothing says whether queues of this road last as long as real ones."
         jam = (" Calibration: flow that leaves the jam at station 103, counted at station 104: 1,500 cars/h per lane measured, 1,350 ± 20 simulated: queues of "
                "this road last too long, so works cost too much on it.")
@@ -117,7 +118,8 @@ class Reports(Case):
                 seat, = await here.join("Ada")
                 await here.lab.road_clock.set_clock(to=600)
                 cases: list[tuple[dict[str, Any] | None, list[str]]] = [
-                    (None, []), ({}, []), ({"calibration": calibrated}, [end + no_jam]), ({"calibration": {**calibrated, "leaving": [leaving]}}, [end + jam])]
+                    (None, []), ({}, []), ({"calibration": calibrated}, [end + earlier]), ({"calibration": {**calibrated, "leaving": []}}, [end + no_jam]),
+                    ({"calibration": {**calibrated, "leaving": [leaving]}}, [end + jam])]
                 for file, wanted in cases:
                     if file is not None:
                         (here.keeper.folder / FREEWAY_FILE).write_text(json.dumps(file), encoding="utf-8")
