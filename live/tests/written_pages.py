@@ -127,6 +127,10 @@ class Reports(Case):
                         page = (await soon(here.ask(seat, "report", **ASKED, **SPAN)))["html"]
                     self.assertEqual(re.findall(f"{re.escape(said)}(.*?)</p>", page), [one + elsewhere for one in wanted])
                     self.assertEqual("zegdrut report" in page, bool(wanted))
+                (here.keeper.folder / FREEWAY_FILE).write_text(json.dumps({"calibration": {**calibrated, "less": None, "more": None}}), encoding="utf-8")
+                with mock.patch("server.figures.report.DAYS", 2):
+                    page = (await soon(here.ask(seat, "report", **ASKED, **SPAN)))["html"]
+                self.assertEqual(("no range of the delay is known" in page, "zegdrut report" in page), (True, False))
 
     async def test_the_report_says_that_nothing_shows_how_sure_capacities_are(self) -> None:
         """It names those of all compared roads, each once, and those of no other road, nor what is withdrawn."""
