@@ -42,7 +42,8 @@ class Part:
 def all_parts() -> list[Part]:
     """Return the parts in the order in which they start: the quick check of pages, then those that take longest."""
     return [
-        Part(FIRST, "the pages: limits, links, the index of specs/, and plain English", ("tools/definitions --check", "tools/check-pages")),
+        Part(FIRST, "the pages: limits, links, the index of specs/, and plain English; imports by layers",
+             ("tools/definitions --check", "tools/check-pages", "tools/check-imports")),
         Part("live", "live, with real browsers, brokers and faults", ("ROAD_LAB=$road_lab live/test",), (LABORATORY,), 4),
         Part("failures", "each call of the programs to the system, made to fail in turn",
              ("tools/fail-in-turn --program $road_lab --within $tests_within --calls $tests_failures --jobs $processors",),
@@ -57,8 +58,8 @@ def all_parts() -> list[Part]:
         Part("scripts", "the scripts of examples/ and tests/scripts", ("tests/run --program $road_lab",), (LABORATORY,)),
         Part("node", "live's page: modules that need no browser, and the types of all modules",
              ("node --test live/tests/*.test.mjs", "tsc -p live/page")),
-        Part("commands", "./start, ./check, the choice of due mutants, and the check of plain English",
-             ("ROAD_LAB=$road_lab tests/commands", "tests/mutants", "tests/plain_english"), (LABORATORY,)),
+        Part("commands", "./start, ./check, the choice of due mutants, and the checks of plain English and imports",
+             ("ROAD_LAB=$road_lab tests/commands", "tests/mutants", "tests/plain_english", "tests/imports"), (LABORATORY,)),
         Part("mutants", "mutants that are due, for ten minutes (under --proof)",
              (f"tools/try-mutants --due --minutes {MINUTES_OF_MUTANTS}",), processors=MOST, only_proved=True),
     ]

@@ -10,7 +10,7 @@ from typing import Any
 from faulty import Bus, Here
 from figures_told import at_inlets, mine, value
 from server.shell.client import RefusedReply, Seat
-from server.tabs.refusals import Refused
+from server.base.refusals import Refused
 from server.model.operations import Stamp
 from running import SMALL, Case, descendants, until
 

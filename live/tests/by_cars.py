@@ -10,7 +10,7 @@ from faulty import Here, soon
 from figures_told import SIDES, at_inlets, mine, of_side, value
 from raw_figures import LONG, STEPS, Run, compare, figures_of, random_plan, random_shapes
 from running import ALL, Case
-from server.background.settings import Settings
+from server.base.settings import Settings
 
 ROADS = 100 if ALL else 30
 

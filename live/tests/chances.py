@@ -18,8 +18,8 @@ from zegdrut.program.wire import PlanLine
 from faulty import Here, soon
 from figures_told import SIDES, mine, of_side, value
 from running import SMALL, Case, new_folder, program, until
-from server.tabs.refusals import Refused
-from server.background.settings import Settings
+from server.base.refusals import Refused
+from server.base.settings import Settings
 from server.figures import comparison
 from server.figures.figures import list_figures
 

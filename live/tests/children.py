@@ -10,7 +10,7 @@ from counting_child import Asked, Told
 from faulty import soon
 from running import PATIENCE, Case, program, until
 from server.figures.child import Child
-from server.tabs.refusals import Refused
+from server.base.refusals import Refused
 
 
 def runs(process: int) -> bool:

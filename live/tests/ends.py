@@ -11,7 +11,7 @@ from faulty import Here, soon
 from figures_told import mine
 from raw_figures import Run
 from running import Case
-from server.background.settings import Settings
+from server.base.settings import Settings
 
 STEPS = 900
 PLAN: dict[str, Any] = {"length": 240, "exit": 1, "zone": 20, "zones": [[5, 6_554]] * 12, "inlets": [[0, 20_000]], "detectors": [50], "words": 3,

@@ -9,7 +9,7 @@ from unittest import mock
 
 from faulty import Here
 from running import PATIENCE, Case
-from server.roads.turns import MORE, Job, More, Turns, Work
+from server.program.turns import MORE, Job, More, Turns, Work
 
 
 ROUNDS = 10  # of the event loop, within which a seat that was answered asks again

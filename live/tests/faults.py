@@ -18,9 +18,9 @@ from unittest import mock
 from faulty import Bus, Disk, Here, Message, soon
 from running import ALL, Case, new_folder
 from server.model.operations import Stamp
-from server.tabs.refusals import Refused
-from server.journal.journal_lines import read_entries
-from server.roads.program import Program
+from server.base.refusals import Refused
+from server.base.journal_lines import read_entries
+from server.program.program import Program
 from server.journal.state import State
 
 FEW = 7  # the gate tries one of this many faults: odd, so that both kinds of fault occur
@@ -267,7 +267,7 @@ class Faults(Case):
             await self.whole()
         for number, way in each((number, way) for number in range(1, lines + 1) for way in LINES):
             async with Story() as story:
-                with mock.patch.object(Program, "ask_all", ends_at(number, way)), mock.patch("server.roads.program.IDLE_PATIENCE", 0.4):
+                with mock.patch.object(Program, "ask_all", ends_at(number, way)), mock.patch("server.program.program.IDLE_PATIENCE", 0.4):
                     await story.runs()
                 await story.ends()
                 self.look(story, f"line {number}, {way}", False)

@@ -18,12 +18,12 @@ from unittest import mock
 from running import PATIENCE, SMALL, new_folder, patience, program
 from server.tabs import verbs
 from server.tabs.fields import CommandFields
-from server.journal.keeper import Keeper
-from server.journal.lab import Lab
-from server.roads.new_road import NewRoad
+from server.lab.keeper import Keeper
+from server.lab.gestures import Lab
+from server.lab.new_road import NewRoad
 from server.model.operations import Operation, Stamp
 from server.tabs.questions import Questions
-from server.background.settings import Settings
+from server.base.settings import Settings
 from server.sites.sites import Sites
 
 CALLS = ("write", "fsync", "rename", "ftruncate")
@@ -103,7 +103,7 @@ class Here:
     async def __aexit__(self, *_: object) -> None:
         self.questions.close()
         await self.keeper.close()
-        if self.keeper._screen is not None:
+        if self.keeper._simulated is not None:
             await self.keeper.program._process.wait()
 
     async def join(self, *names: str) -> list[int]:
@@ -132,7 +132,7 @@ class Here:
 
     def entries(self) -> list[Any]:
         """Return the entries on the disk."""
-        from server.journal.journal_lines import read_entries
+        from server.base.journal_lines import read_entries
         return read_entries(self.folder / "journal.jsonl")[0]
 
 

@@ -21,12 +21,13 @@ import running  # noqa: E402
 from oracle import Values, all_edits, by_rows, oracle_of  # noqa: E402
 from painted import LAST, THERE, random_operation  # noqa: E402
 from running import Case, Server  # noqa: E402
-from server.journal.journal_lines import journal_line, to_json  # noqa: E402
+from server.base.journal_lines import journal_line  # noqa: E402
+from server.base.json_values import to_json  # noqa: E402
 from server.journal.entries import JOURNAL_FORM, Arrival, Entry, Folder, Keys, OwnOperation, SeatGrant, Share, Take, read_plan_line, write_entry  # noqa: E402
 from server.journal.state import Replica, State  # noqa: E402
 from server.model.operations import About, Operation, undo  # noqa: E402
 from server.model.road import Road  # noqa: E402
-from server.roads.screen import rows_of  # noqa: E402
+from server.program.simulated_roads import rows_of  # noqa: E402
 
 KEPT = Path(__file__).resolve().parent / "kept_journals.jsonl.gz"
 HISTORIES, ACTS, SEATS = 30, 70, 2

@@ -17,11 +17,12 @@ import running
 from formats import ORACLE, PLAN
 from oracle import all_edits, by_rows
 from running import LIVE, Case, Server
-from server.journal.journal_lines import journal_line, to_json
+from server.base.journal_lines import journal_line
+from server.base.json_values import to_json
 from server.journal.entries import write_entry
 from server.journal.state import State
 from server.model.demands import asked_demands
-from server.roads.screen import rows_of
+from server.program.simulated_roads import rows_of
 
 SCRIPT = LIVE / "import_former"
 KEPT = Path(__file__).resolve().parent / "former_journals.jsonl.gz"

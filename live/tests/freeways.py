@@ -16,7 +16,7 @@ from figures_told import at_inlets, mine, value
 from server.shell.client import Seat
 from server.figures.figures import sides_of
 from server.figures.report import closures_of, demand_text, facts_of
-from server.roads import new_road
+from server.lab import new_road
 from running import LIVE, PATIENCE, SMALL, Case, Server, end, new_folder, program, started, until
 from zegdrut.roads.clock import Clock
 from zegdrut.roads.units import METRES, Units

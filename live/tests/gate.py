@@ -16,10 +16,11 @@ from typing import Any, Iterator, Sequence
 
 from faulty import Bus, Here
 from running import ALL, Broker, Case, Server, end, until
-from server.journal.journal_lines import CorruptJournal, journal_line, to_json
+from server.base.journal_lines import CorruptJournal, journal_line
+from server.base.json_values import to_json
 from server.model.reading import LONGEST_NAME, LONGEST_NOTE, clean_text
 from server.shell.client import RefusedReply, Seat
-from server.tabs.refusals import Refused
+from server.base.refusals import Refused
 
 MOST, EACH, FOLDER = 20_000 if ALL else 300, 20, 1_000  # gestures: in all, before each restart, in a folder
 LEAST = 0.5  # the part of the gestures of a verb that must be confirmed, else they try nothing

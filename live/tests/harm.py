@@ -14,9 +14,9 @@ from oracle import all_edits
 from running import ALL, LIVE, SMALL, Case
 from server.tabs import verbs
 from server.tabs.fields import CommandFields
-from server.tabs.refusals import NAMES, OF_THE_FORMAT, Refused
+from server.base.refusals import NAMES, OF_THE_FORMAT, Refused
 from server.model.operations import About, Shape, put
-from server.roads.screen import rows_of
+from server.program.simulated_roads import rows_of
 from server.sites.message_limits import Floods
 from server.sites.sites import Sites
 
@@ -103,7 +103,7 @@ class Bounds(Case):
         def worked() -> float:
             work[0] += 2.9  # once before, and once after
             return work[0]
-        with mock.patch("server.journal.lab.time.thread_time", worked):
+        with mock.patch("server.lab.gestures.time.thread_time", worked):
             for step, seconds in ((50, 0), (51, 6), (52, 0), (53, 0), (54, 0)):  # 9 seconds of work are allowed in all
                 await two.put(1, ["limit", 2, step, 3])
                 await two.share(1)

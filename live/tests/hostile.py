@@ -18,7 +18,7 @@ import aiohttp
 
 from server.tabs import verbs
 from server.tabs.fields import CommandFields
-from server.tabs.refusals import Refused
+from server.base.refusals import Refused
 from server.shell.client import Seat
 from server.tabs.new_connections import Strangers, address_group
 from server.tabs.tabs import Tab, parse_frame

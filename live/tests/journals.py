@@ -23,9 +23,9 @@ import running
 from faulty import Disk, Here, soon
 from server.shell.client import Seat
 from server.journal.journal import Journal, NotWritten, lock, make_folder, put_in_place
-from server.journal.journal_lines import CannotStart, Entries, read_entries
-from server.journal.keeper import Keeper
-from server.background.settings import Settings
+from server.base.journal_lines import CannotStart, Entries, read_entries
+from server.lab.keeper import Keeper
+from server.base.settings import Settings
 from crashes import numbers
 from running import LIVE, SMALL, Case
 from server.journal.naming import Counter, can_be_said, is_far, new_site
@@ -33,7 +33,7 @@ from server.journal.entries import write_entry
 from server.journal.state import State
 from server.model.operations import About, Shape, put
 from server.model.reading import SITE
-from server.tabs.refusals import Refused
+from server.base.refusals import Refused
 from working import takes_at_most
 
 GESTURES: list[Any] = [{"made": {"seat": 1, "key": f"k{count}", "operation": put(count, Shape(
@@ -753,7 +753,7 @@ class Names(Case):
             for number in range(25):
                 await here.ask(1, "gesture", key=f"p{number}", shape=["limit", 2, 2, 50, None, 1])
                 await here.ask(1, "undo", key=f"u{number}", stamp=f"p{number}")
-            with mock.patch("server.journal.keeper.MOST_UNDOABLE", 0):
+            with mock.patch("server.lab.keeper.MOST_UNDOABLE", 0):
                 here.keeper._forget()
             self.assertEqual(len(here.lab.state.by_stamp), 0)
             self.assertEqual(await self.counts(here, 1), [51])
@@ -772,7 +772,7 @@ class Names(Case):
             await here.join("Ada")
             await here.ask(1, "gesture", key="p", shape=["limit", 2, 2, 50, None, 1])
             await here.ask(1, "undo", key="u", stamp="p")
-            with mock.patch("server.journal.keeper.MOST_UNDOABLE", 0):
+            with mock.patch("server.lab.keeper.MOST_UNDOABLE", 0):
                 here.keeper._forget()
         path, entries = here.folder / "journal.jsonl", here.entries()
         made = next(entry["made"] for entry in entries if "made" in entry)

@@ -12,9 +12,9 @@ from faulty import Bus, Here, Message, message_of, written
 from oracle import all_edits, oracle_of
 from zegdrut import Edit, RoadLab
 from running import ALL, SMALL, Case
-from server.tabs.refusals import Refused
+from server.base.refusals import Refused
 from server.model.operations import About, Operation, Shape, exclude, put
-from server.roads.screen import rows_of
+from server.program.simulated_roads import rows_of
 from server.journal.state import State
 from server.journal.entries import read_plan_line
 

@@ -11,7 +11,8 @@ from oracle import all_edits
 from painted import EMPTY, made_by
 from working import takes_at_most
 from server.model import choices, lines, visibility
-from server.model.operations import About, Json, Operation, Shape, describe_act, exclude, lift, named, put, undo
+from server.model.operations import About, Operation, Shape, describe_act, exclude, lift, named, put, undo
+from server.base.json_values import Json
 from server.model.projection import difference
 from server.model.reading import GREATEST_COUNT, Malformed, read_operation
 from server.model.road import Road, change, repeat

@@ -7,10 +7,10 @@ from unittest import mock
 
 from faulty import Here, soon
 from running import Case, until
-from server.background import supervised
-from server.journal.road_clock import RoadClock
+from server.base import supervised
+from server.lab.road_clock import RoadClock
 from server.tabs.tabs import Tabs
-from server.roads.turns import Turns
+from server.program.turns import Turns
 
 
 def failing_once(does: Any) -> Any:

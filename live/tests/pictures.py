@@ -9,7 +9,7 @@ import unittest
 from typing import Any, Sequence
 
 from server.figures import files
-from server.roads.program import LONG_ROAD, command_of
+from server.program.program import LONG_ROAD, command_of
 from server.shell.client import RefusedReply
 from running import SMALL, Case, program
 

@@ -10,7 +10,7 @@ from unittest import mock
 
 from faulty import Here, soon
 from running import SMALL, Case, program
-from server.roads.program import start
+from server.program.program import start
 
 LONG: dict[str, Any] = {**SMALL, "length": 8_000, "zone": 1_000, "zones": [[5, 6_554]] * 8}
 
@@ -29,7 +29,7 @@ class Programs(Case):
             told: list[Any] = []
             keeper.listeners.program.on(lambda: told.append((keeper.replacements, keeper.why_replaced)))
             os.kill(keeper.program._process.pid, signal.SIGSTOP)
-            with mock.patch("server.roads.program.IDLE_PATIENCE", 1.0):
+            with mock.patch("server.program.program.IDLE_PATIENCE", 1.0):
                 reply = await soon(keeper.ask(ada, (ada,), lambda: keeper.program.ask(b'{"scenario":{"at":"seat1"}}')))
             self.assertEqual([[*edit[:3], edit[5]] for edit in json.loads(reply)["edits"]], [["limit", 2, 50, 3]])
             self.assertEqual(told, [(1, "the program did not answer and used no processor time for 1 seconds")])
@@ -47,7 +47,7 @@ class Programs(Case):
         """It works for much longer than the server waits for a program that hangs."""
         here = await start([str(program())], json.dumps({**LONG, "replicas": ["A"]}).encode())
         self.addAsyncCleanup(here.close)
-        with mock.patch("server.roads.program.IDLE_PATIENCE", 0.2):
+        with mock.patch("server.program.program.IDLE_PATIENCE", 0.2):
             began = asyncio.get_running_loop().time()
             reply = await soon(here.ask(b'{"advance":{"at":"A","to":400000}}'))
             self.assertEqual(json.loads(reply), {"horizon": 400_000})

@@ -25,7 +25,7 @@ from pathlib import Path
 from typing import Any, Awaitable, Callable, Iterator
 
 from server.shell.client import Seat
-from server.background.watch import SAID, Watch
+from server.base.watch import SAID, Watch
 from working import is_too_long
 from zegdrut import program_path
 

@@ -11,9 +11,9 @@ from faulty import Here, soon
 from running import Case, new_folder
 from server.tabs import verbs
 from server.tabs.fields import CommandFields
-from server.tabs.refusals import Refused
-from server.tabs.seating import SteadyClock
-from server.journal.lab import Lab
+from server.base.refusals import Refused
+from server.lab.seating import SteadyClock
+from server.lab.gestures import Lab
 
 
 def copied(folder: Path) -> Path:
@@ -94,7 +94,7 @@ class Seats(Case):
     async def test_a_seat_that_was_used_until_a_kill_is_not_free_after_it(self) -> None:
         """It is not, even if its tab joined days ago and never left."""
         now = [1_000_000.0]
-        with mock.patch("server.tabs.seating.time.time", lambda: now[0]):
+        with mock.patch("server.lab.seating.time.time", lambda: now[0]):
             self.here.lab.seating.steady = SteadyClock(3_600, lambda: now[0], lambda: now[0])
             ada, ben = await self.here.join("Ada", "Ben")
             self.here.lab.seating.leave(ben)
@@ -115,7 +115,7 @@ class Seats(Case):
         """The machine's clock is three days ahead for a moment, or when the server starts. If days have really passed, seats are
         freed an hour later."""
         wall, passed = [1_000_000.0], [0.0]
-        with mock.patch("server.tabs.seating.time.time", lambda: wall[0]):
+        with mock.patch("server.lab.seating.time.time", lambda: wall[0]):
             def looks(lab: Lab, minutes: int) -> str:
                 """Return who has a seat after this many minutes."""
                 for _ in range(minutes):
@@ -199,7 +199,7 @@ class Seats(Case):
     async def clock(self, rate: float, seconds: float) -> int:
         """Return how many steps a clock of this rate advances in some seconds."""
         keeper, lab = self.here.keeper, self.here.lab
-        with mock.patch("server.journal.keeper.time.monotonic", lambda: self.time):
+        with mock.patch("server.lab.keeper.time.monotonic", lambda: self.time):
             await verbs.answer(lab, self.here.questions, 1, CommandFields("clock", {"rate": rate}), {})
             before = keeper.now()
             for _ in range(int(seconds)):

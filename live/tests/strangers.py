@@ -19,13 +19,13 @@ from server.sites import peers, seals
 from server.sites.message_limits import Floods
 from server.sites.peers import Peers
 from server.shell.new_site import move_to_new_site
-from server.journal.journal_lines import CannotStart
+from server.base.journal_lines import CannotStart
 from server.journal.naming import Counter
 from server.model.operations import About, Operation, Shape, Stamp, lift, put, undo
 from server.model.reading import Malformed, read_operation
-from server.roads.new_road import NewRoad, share_works
+from server.lab.new_road import NewRoad, share_works
 from server.sites.sites import Sites
-from server.tabs.refusals import Refused
+from server.base.refusals import Refused
 
 HOUR, DAY = 3_600_000, 86_400_000  # milliseconds
 NOW = 1_780_000_000_000  # milliseconds since 1970

@@ -16,11 +16,11 @@ from faulty import Disk, Here, soon, written
 from oracle import by_rows, oracle_of
 from raw_figures import STEPS, Run, compare as compare_runs, figures_of, random_plan, random_shapes
 from running import SMALL, Case, descendants, new_folder, program, until
-from server.background.settings import Settings
-from server.journal.lab import MOST_VARIANTS
+from server.base.settings import Settings
+from server.lab.gestures import MOST_VARIANTS
 from server.model.reading import read_operation
-from server.roads.fixed_roads import MOST_PROGRAMS, UNUSED
-from server.tabs.refusals import Refused
+from server.lab.fixed_roads import MOST_PROGRAMS, UNUSED
+from server.base.refusals import Refused
 
 LAST = 200
 ELSEWHERE = "elsewhere-0123abcd"  # a site that does not exist
@@ -273,7 +273,7 @@ class Kept(Case):
             return len({*descendants()} - there) == MOST_PROGRAMS
         await until(are_few, "four programs beside that of the roads")
         self.here.questions.drop_seat(seats[-1])
-        with mock.patch("server.roads.fixed_roads.time.monotonic", return_value=1e9 + UNUSED):
+        with mock.patch("server.lab.fixed_roads.time.monotonic", return_value=1e9 + UNUSED):
             self.here.questions.roads.find(self.ben, "file")
 
         async def are_none() -> bool:
@@ -327,11 +327,11 @@ class Kept(Case):
             query = asyncio.ensure_future(road.run_job(is_free.wait))
             await asyncio.sleep(0)
             late = time.monotonic() + 2 * UNUSED
-            with mock.patch("server.roads.fixed_roads.time.monotonic", return_value=late):
+            with mock.patch("server.lab.fixed_roads.time.monotonic", return_value=late):
                 self.here.questions.roads.find(self.ben, "file")
                 is_free.set()
                 self.assertTrue(await soon(query))
-            with mock.patch("server.roads.fixed_roads.time.monotonic", return_value=late + UNUSED - 1):
+            with mock.patch("server.lab.fixed_roads.time.monotonic", return_value=late + UNUSED - 1):
                 self.here.questions.roads.find(self.ben, "file")
                 self.assertEqual(await self.picture_of_rows(at), self.rows["night"][0])
         await self.end_of_programs(there)

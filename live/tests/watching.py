@@ -13,11 +13,11 @@ from faulty import Here
 from running import HELD_UP, Case, Watched, is_of_server, until
 from working import takes_at_most
 from server.shell.client import Seat
-from server.journal.keeper import Keeper
+from server.lab.keeper import Keeper
 from server.model.operations import About, Shape, put
 from server.model.road import Road
 from server.tabs.tabs import Tab, Tabs
-from server.background.watch import SAID, Watch, keep_collections_short
+from server.base.watch import SAID, Watch, keep_collections_short
 
 
 SHAPES = 130
@@ -156,7 +156,7 @@ class Pieces(Case):
             await here.lab.receive(many, "", {})
             self.assertEqual((await here.take(ada))["size"], 60)
         self.assertEqual((max(added), sum(added)), (7, 120))
-        with mock.patch("server.journal.lab.LIST_AT_ONCE", 60):
+        with mock.patch("server.lab.gestures.LIST_AT_ONCE", 60):
             for at in (f"seat{ada}", "shared"):
                 self.assertEqual(len((await here.ask(ada, "layers", at=at))["layers"]), 60)
 

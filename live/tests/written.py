@@ -16,14 +16,14 @@ from figures_told import means, mine, of_side
 from running import Case, until
 from server.figures import comparison
 from server.figures.child import Child
-from server.tabs.refusals import Refused
+from server.base.refusals import Refused
 from server.journal.entries import SeatUse
 from server.journal.journal import Journal
 from server.model.operations import About, Operation, Shape, put
-from server.roads.program import ProgramExited, Program
-from server.background.settings import Settings
+from server.program.program import ProgramExited, Program
+from server.base.settings import Settings
 from server.journal.naming import Counter
-from server.roads.turns import MORE
+from server.program.turns import MORE
 
 LIMIT = ["limit", 2, 50]
 
@@ -124,7 +124,7 @@ class Written(Case):
             return await ask_all(program, lines)
         for step in (50, 60, 70):
             await self.here.put(self.ada, ["limit", 2, step, step % 9])
-        with mock.patch.object(Program, "ask_all", held_up), mock.patch("server.roads.program.IMPORT_EDITS", 1):
+        with mock.patch.object(Program, "ask_all", held_up), mock.patch("server.program.program.IMPORT_EDITS", 1):
             share = asyncio.create_task(self.here.share(self.ada))
 
             async def is_kept() -> bool:
@@ -146,7 +146,7 @@ class Written(Case):
             for seat, at in ((self.ada, "seat1"), (self.ben, "seat2"), (self.ben, "shared")):  # which hold this so far
                 await self.here.ask(seat, "scenario", at=at)
             self.here.keeper.program.kill()
-            with mock.patch("server.journal.keeper.start", none):
+            with mock.patch("server.lab.keeper.start", none):
                 await soon(act)
                 self.assertEqual(await self.refused(self.here.ask(self.ben, "scenario", at="shared")), "NoProgram")
         self.assertEqual([next(iter(one)) for one in self.here.entries()][-3:], ["made", "share", "take"])
@@ -409,10 +409,9 @@ class Stalled(Case):
 
     async def asyncSetUp(self) -> None:
         self.disk = self.enterContext(Disk())
-        for name, seconds in (("STALLS", 0.3), ("A_MOMENT", 0.2)):
-            self.enterContext(mock.patch(f"server.journal.keeper.{name}", seconds))
-        for module in ("tabs.seating", "journal.road_clock"):
-            self.enterContext(mock.patch(f"server.{module}.A_MOMENT", 0.2))
+        self.enterContext(mock.patch("server.lab.keeper.STALLS", 0.3))
+        for module in ("keeper", "seating", "road_clock"):
+            self.enterContext(mock.patch(f"server.lab.{module}.A_MOMENT", 0.2))
         self.here = await self.enterAsyncContext(Here(site="north"))
         self.keeper = self.here.keeper
         self.told: list[Any] = []

@@ -10,10 +10,10 @@ from unittest import mock
 from faulty import Here, soon
 from figures_told import mine, value
 from running import SMALL, Case
-from server.background.settings import Settings
+from server.base.settings import Settings
 from server.figures import report
-from server.roads.new_road import FREEWAY_FILE
-from server.tabs.refusals import Refused
+from server.lab.new_road import FREEWAY_FILE
+from server.base.refusals import Refused
 
 SPAN: dict[str, Any] = {"from": 60, "to": 600}
 ASKED: dict[str, Any] = {"of": mine(1), "title": "The road of <Ada>: 0:01:00 to 0:10:00", "works": ["Closed 0.45–0.458 km, 0:02:00–0:05:00", "a & b"]}

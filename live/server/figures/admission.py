@@ -15,7 +15,7 @@ from zegdrut.roads.capacity import find_capacity
 from zegdrut.roads.demand import Drivers, Effort, Inlet, measure_admission
 from zegdrut.roads.units import ALWAYS, KMH
 
-from ..journal.journal_lines import to_json
+from ..base.json_values import to_json
 from ..model.operations import Capacity
 from . import child
 

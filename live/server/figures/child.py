@@ -19,10 +19,10 @@ import sys
 from typing import AsyncIterator, Callable, Generic, Iterable, Mapping, TypeVar
 
 from .. import LIVE
-from ..background.settings import Settings
-from ..journal.journal_lines import to_json
-from ..roads.program import LONGEST_REPLY, command_ending_with_parent
-from ..tabs.refusals import Refused
+from ..base.json_values import to_json
+from ..base.refusals import Refused
+from ..base.settings import Settings
+from ..program.program import LONGEST_REPLY, command_ending_with_parent
 
 PATIENCE = 600.0  # seconds that a question may take
 GIVES_WAY = Settings.read().gives_way

@@ -18,7 +18,7 @@ from zegdrut.figures.simulation import iterate_days
 from zegdrut.figures.trips import Window
 from zegdrut.reports.report import run_side
 
-from ..tabs.refusals import Refused
+from ..base.refusals import Refused
 from . import child
 from .figures import ComparedRoads, Row, compare_all_ends, list_figures, sides_of, units_of, write_rows
 

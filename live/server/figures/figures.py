@@ -25,8 +25,8 @@ from zegdrut.roads.units import METRES, Units
 from zegdrut.roads.waiting import find_arrivals
 
 from ..model.projection import Edits
-from ..roads.program import import_lines
-from ..roads.screen import first_step, rows_of
+from ..program.program import import_lines
+from ..program.simulated_roads import first_step, rows_of
 from . import child
 
 SECONDS = 60.0  # seconds for a question; the next one resumes where this one stopped

@@ -11,9 +11,9 @@ from zegdrut.program.wire import PlanLine, WrittenEdit
 from zegdrut.roads.clock import Clock
 from zegdrut.roads.units import Units
 
-from ..journal.journal_lines import to_json
-from ..roads.program import command_of, import_lines, start
-from ..tabs.refusals import Refused
+from ..base.json_values import to_json
+from ..base.refusals import Refused
+from ..program.program import command_of, import_lines, start
 from .figures import DetectorFigures
 
 MOST = 64_000_000  # bytes of rows in a transcript

@@ -19,7 +19,7 @@ from zegdrut.roads.demand import Rates
 from zegdrut.roads.units import ALWAYS, KMH, Units, count_things
 from zegdrut.sweeps.pool import count_processors
 
-from ..model.operations import Json
+from ..base.json_values import Json
 from ..model.projection import Edits
 from . import child
 from .figures import ComparedRoads, edits_of, sides_of, units_of

@@ -1,1 +1,1 @@
-"""Confirm what seats do: check it, apply it, write it to the journal, and keep a program that simulates it."""
+"""Confirm what seats do: lines on the disk, their meaning, and the checks before an operation is written."""

@@ -1,8 +1,9 @@
 """Check operations against the plan, whoever made them. Every site takes an operation that passes, and no program refuses its edits."""
 from __future__ import annotations
 
+from ..base.json_values import Json
 from ..model.layers import values_of
-from ..model.operations import CAPACITY, SEATS, Json, Operation
+from ..model.operations import CAPACITY, SEATS, Operation
 from ..model.reading import Malformed, read_operation
 
 from zegdrut.program.grammar import KINDS, LAST_STEP

@@ -16,9 +16,10 @@ from zegdrut.program.grammar import PLAN, check_fields
 from zegdrut.program.wire import PlanLine
 from zegdrut.roads.units import METRES, Units
 
-from ..model.operations import SEATS, Json, Operation, Stamp
+from ..base.journal_lines import CannotStart, JournalLine
+from ..base.json_values import Json
+from ..model.operations import SEATS, Operation, Stamp
 from ..model.reading import Malformed, list_of, read_kept_operation, read_row, read_site, read_stamp, read_time, whole
-from .journal_lines import CannotStart, JournalLine
 
 if TYPE_CHECKING:
     from .state import State

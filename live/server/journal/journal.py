@@ -24,7 +24,8 @@ import time
 from pathlib import Path
 from typing import Callable, Iterable, Iterator, ParamSpec
 
-from .journal_lines import JOURNAL, CannotStart, JournalLine, journal_line, read_entries, to_json
+from ..base.journal_lines import JOURNAL, CannotStart, JournalLine, journal_line, read_entries
+from ..base.json_values import to_json
 
 WRITTEN_AT_ONCE = 1_000
 ROOM = 262_144  # bytes that must fit on the disk before it counts as writable; no gesture is longer

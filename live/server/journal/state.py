@@ -16,6 +16,7 @@ from typing import Iterable, Iterator, Mapping, Sequence
 from zegdrut.program.wire import PlanLine
 from zegdrut.roads.units import METRES, Units
 
+from ..base.journal_lines import CorruptJournal
 from ..model.choices import find_forgettable, shareable
 from ..model.lines import all_lines, find_altered_lines, line_of, operations_on
 from ..model.operations import SEATS, Operation, Stamp, Unreadable, intern_int
@@ -23,7 +24,6 @@ from ..model.reading import Malformed
 from ..model.road import Road
 from .entries import (JOURNAL_FORM, NewsList, Arrival, Clock, Entry, Fields, Folder, Keys, NamedVariant, OwnOperation, News, SeatGrant, Take,
                       Works, read_entry)
-from .journal_lines import CorruptJournal
 from .naming import Counter
 
 TAB_FORM = 7  # the protocol of tabs

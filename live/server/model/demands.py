@@ -8,8 +8,9 @@ from __future__ import annotations
 import math
 from typing import Mapping, Sequence
 
+from ..base.json_values import Json
 from .layers import split_by_topmost
-from .operations import END, NO_MORE, Json, Operation, Shape, Stamp
+from .operations import END, NO_MORE, Operation, Shape, Stamp
 from .road import Road
 
 DEMAND, PLANNED = "demand", "planned"

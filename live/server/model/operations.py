@@ -17,9 +17,10 @@ import hashlib
 import json
 from dataclasses import dataclass, field, replace
 from types import MappingProxyType
-from typing import Iterable, Mapping, NamedTuple, Union
+from typing import Iterable, Mapping, NamedTuple
 
-Json = Union[None, bool, int, float, str, "list[Json]", "dict[str, Json]"]
+from ..base.json_values import Json
+
 Stamp = tuple[int, str]
 """A count, and the hash of the operation's text."""
 Capacity = tuple[int, int, int, int]

@@ -11,7 +11,8 @@ import sys
 import unicodedata
 from typing import Callable, Mapping, Sequence, TypeVar
 
-from .operations import CAPACITY, NO_MORE, About, Capacity, Json, Operation, Shape, Stamp, Unreadable, intern_int, name_of
+from ..base.json_values import Json
+from .operations import CAPACITY, NO_MORE, About, Capacity, Operation, Shape, Stamp, Unreadable, intern_int, name_of
 
 GREATEST_COUNT, GREATEST_VALUE = (1 << 53) - 1, (1 << 32) - 1
 MOST_OBJECTS = 600  # objects of a shape

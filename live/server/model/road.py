@@ -10,8 +10,8 @@ from __future__ import annotations
 import weakref
 from typing import AbstractSet, Callable, Iterable
 
-from .layers import Layer, Stretch, parts_of, sort_from_top, touches
 from .active_operations import NO_OPERATIONS, OperationSet, insert_in_order
+from .layers import Layer, Stretch, parts_of, sort_from_top, touches
 from .operations import END, NOTHING, About, Operation, Shape, Stamp, Unreadable, lift, named
 
 Plan = Callable[[str, int], "int | None"]

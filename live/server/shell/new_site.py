@@ -7,9 +7,9 @@ from __future__ import annotations
 import os
 from pathlib import Path
 
+from ..base.journal_lines import JOURNAL
 from ..journal.entries import write_entry
 from ..journal.journal import journal_lines, put_in_place, sync_folder
-from ..journal.journal_lines import JOURNAL
 from ..journal.naming import new_site
 from .tables import read_state
 

@@ -17,10 +17,11 @@ from zegdrut.program.wire import PlanLine
 from zegdrut.roads.clock import Clock
 from zegdrut.roads.units import KMH, Units
 
-from ..journal.journal_lines import JOURNAL, CannotStart, Entries, to_json
+from ..base.journal_lines import JOURNAL, CannotStart, Entries
+from ..base.json_values import to_json, Json
 from ..journal.state import NO_PLAN, State
-from ..model.operations import Json, Operation, Shape, Stamp, Unreadable, describe_act
-from ..roads import new_road
+from ..lab import new_road
+from ..model.operations import Operation, Shape, Stamp, Unreadable, describe_act
 
 Row = tuple["int | float | str | None", ...]
 SCHEMA = """

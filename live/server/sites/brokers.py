@@ -3,7 +3,7 @@ from __future__ import annotations
 
 import argparse
 
-from ..journal.journal_lines import CannotStart
+from ..base.journal_lines import CannotStart
 
 try:
     import paho.mqtt.client as mqtt

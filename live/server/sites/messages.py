@@ -4,8 +4,7 @@ from __future__ import annotations
 import json
 from typing import Mapping
 
-from ..journal.journal_lines import to_json
-from ..model.operations import Json
+from ..base.json_values import to_json, Json
 from ..model.reading import Malformed, clean_text, read_row, read_site, read_stamp
 from .sums import MOST_RANGES, Bound
 

@@ -4,8 +4,8 @@ from __future__ import annotations
 import time
 from typing import AbstractSet, Iterator, NamedTuple, Sequence, TypedDict
 
-from ..journal.keeper import Keeper
 from ..journal.state import SITE_FORM
+from ..lab.keeper import Keeper
 from .message_limits import drop_oldest
 
 ANNOUNCE_EVERY = 3.0  # seconds between two announcements

@@ -17,8 +17,8 @@ import re
 import secrets
 from pathlib import Path
 
-from ..journal.journal_lines import CannotStart, to_json
-from ..model.operations import Json
+from ..base.journal_lines import CannotStart
+from ..base.json_values import to_json, Json
 
 SHORTEST_KEY = 16  # bytes
 RUN = re.compile("[0-9a-f]{16}")

@@ -18,18 +18,18 @@ from time import thread_time
 from types import TracebackType
 from typing import TYPE_CHECKING, Callable, Deque, Iterator, Mapping, NamedTuple, Sequence
 
-from ..background.supervised import supervise
-from ..journal.journal_lines import to_json
+from ..base.json_values import to_json, Json
+from ..base.refusals import Refused
+from ..base.supervised import supervise
 from ..journal.entries import Acknowledgement
-from ..journal.keeper import SHARED, wait_until_written
-from ..journal.lab import Lab
 from ..journal.naming import is_far
 from ..journal.state import SITE_FORM, State
-from ..model.operations import Json, Operation, Unreadable, sort_by_stamp
+from ..lab.gestures import Lab
+from ..lab.keeper import SHARED, wait_until_written
+from ..model.operations import Operation, Unreadable, sort_by_stamp
 from ..model.reading import LONGEST_NOTE, Malformed, clean_text
 from ..model.road import Road
-from ..roads.program import Times
-from ..tabs.refusals import Refused
+from ..program.program import Times
 from .brokers import HEADER, LONGEST_MESSAGE, broker_of, explain_refusal, keep_connected, longest_packet, new_client
 from .message_limits import ANNOUNCEMENTS, FLOOD, REPEATS, STRANGERS, UNSEALED, Floods, drop_oldest
 from .messages import InvalidMessage, form_of, read_message, site_of, sum_of

@@ -12,7 +12,7 @@ import itertools
 from bisect import bisect_left
 from typing import Iterable, Sequence
 
-from ..journal.journal_lines import to_json
+from ..base.json_values import to_json
 from ..model.operations import Operation, Stamp
 from ..model.projection import Edits
 

@@ -6,17 +6,16 @@
 """
 from __future__ import annotations
 
-import unicodedata
 from itertools import islice
 from typing import Callable, Iterator, Mapping, TypeVar, cast
 
 from zegdrut.program.grammar import GREATEST, Part, kind, list_of as faults_of_list, row_of, shown, value_of, whole
 
-from ..journal.journal_lines import to_json
+from ..base.json_values import to_json, Json
+from ..base.refusals import Refused, not_a_command
 from ..model.demands import INFLOW, MOST_DEMAND
-from ..model.operations import CAPACITY, Capacity, Json, Shape, Stamp, intern_int
+from ..model.operations import CAPACITY, Capacity, Shape, Stamp, intern_int
 from ..model.reading import Malformed, clean_text, list_of, read_site, read_stamp
-from .refusals import Refused, not_a_command
 
 LONGEST_KEY = 40  # characters
 MOST_FAULTS_NAMED = 3  # faults of a list that a refusal names
@@ -37,17 +36,6 @@ SHAPE = row_of(("kind", kind), *PLACES, ("value", whole))
 CAPACITY_SHAPE = row_of(("kind", capacity_kind), *PLACES, ("value", row_of(
     ("cars per hour", whole), ("limit", whole), ("slowing chance", whole), ("slow-to-start chance", whole))))
 PAIR = row_of(("index", whole), ("chance", whole))
-
-
-# Cyrillic, Greek and rare Latin letters that look like a common Latin letter, small or capital; and invisible characters.
-LOOK_ALIKE = str.maketrans("авесԁԍһіјкӏмнорԛѕтѵԝухαβεζηικμνορτυχıɑɡ", "abecdghijklmhopqstvwyxabezhikmnoptyxiag",
-                           "\u034f\u115f\u1160\u2800\u3164" + "".join(map(chr, range(0xfe00, 0xfe10))))
-
-
-def fold_look_alikes(name: str) -> str:
-    """Return a form of a name that is the same for all names that look alike: without case, spaces, widths and styles of letters."""
-    plain = unicodedata.normalize("NFKC", unicodedata.normalize("NFKC", name).casefold())
-    return unicodedata.normalize("NFC", "".join(plain.split()).translate(LOOK_ALIKE))
 
 
 class CommandFields:

@@ -5,11 +5,12 @@ from typing import Mapping, Sequence, TypedDict
 
 from zegdrut.program.wire import PlanLine, WrittenEdit
 
+from ..base.json_values import Json
 from ..figures.figures import DetectorFigures, Head, MeanTimes, Row
-from ..model.operations import Capacity, Json, Shape, Stamp
+from ..lab.change_list import ListedOperation, Line
+from ..lab.seating import ListedSeat
+from ..model.operations import Capacity, Shape, Stamp
 from ..sites.peers import BrokerState
-from .change_list import ListedOperation, Line
-from .seating import ListedSeat
 
 Day = TypedDict("Day", {"begin": "int | None", "date": "str | None", "zone": "str | None"})
 """The time of day at minute 0 of the road's file in seconds after midnight, the date and the time zone; null if the file has none."""

@@ -17,31 +17,31 @@ from zegdrut.roads.clock import Clock
 from zegdrut.roads.freeway import leave_out_approach
 from zegdrut.roads.units import Units
 
+from ..base.json_values import to_json, Json
+from ..base.refusals import Refused
 from ..figures import admission, comparison, figures, files, report
 from ..figures.child import Child, wait_for_slot
 from ..figures.figures import ComparedRoads, DetectorFigures, FiguresAnswer, FiguresQuestion
 from ..figures.report import ReportAnswer, ReportQuestion
-from ..journal.journal_lines import to_json
-from ..journal.keeper import SHARED
-from ..journal.lab import LIST_AT_ONCE, Lab
-from ..journal.lab import ReplyFields as Fields
-from ..journal.road_clock import STEPS_AHEAD
 from ..journal.state import Replica
+from ..lab.change_list import Line, Lister
+from ..lab.fixed_roads import FILE, VARIANT, FixedRoad
+from ..lab.gestures import LIST_AT_ONCE, Lab
+from ..lab.gestures import ReplyFields as Fields
+from ..lab.keeper import SHARED
+from ..lab.new_road import calibration_of, clock_of, name_of
+from ..lab.road_clock import STEPS_AHEAD
+from ..lab.roads import QueryRoad
 from ..model.choices import sendable
 from ..model.lines import all_lines, find_altered_lines
-from ..model.operations import Json, Operation, Stamp, Unreadable
+from ..model.operations import Operation, Stamp, Unreadable
 from ..model.projection import value_of
 from ..model.road import Road
 from ..model.visibility import visible_rectangles
-from ..roads import rows
-from ..roads.fixed_roads import FILE, VARIANT, FixedRoad
-from ..roads.program import LONG_ROAD, Times
-from ..roads.new_road import calibration_of, clock_of, name_of
-from ..roads.roads import QueryRoad
-from ..roads.screen import first_step
-from ..roads.turns import MORE, Job, More
-from .change_list import Line, Lister
-from .refusals import Refused
+from ..program import rows
+from ..program.program import LONG_ROAD, Times
+from ..program.simulated_roads import first_step
+from ..program.turns import MORE, Job, More
 from .seat_roads import SeatRoads
 
 MOST_ROWS, MOST_BYTES = 1_024, 1_100_000  # rows in a reply, and their bytes

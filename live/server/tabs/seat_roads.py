@@ -13,16 +13,16 @@ from typing import Mapping, Sequence
 
 from zegdrut.program.wire import WrittenEdit
 
+from ..base.refusals import Refused
 from ..figures.figures import ComparedRoad
-from ..journal.keeper import SHARED, Keeper
 from ..journal.state import Variant
+from ..lab.fixed_roads import FILE, SIDES, VARIANT, FixedRoad, FixedRoads, KeptRoads, KnownRoad
+from ..lab.keeper import SHARED, Keeper
+from ..lab.roads import QueryRoad, ReplicaRoad
 from ..model.demands import asked_demands
 from ..model.operations import Operation
 from ..model.road import Road
-from ..roads.fixed_roads import FILE, SIDES, VARIANT, FixedRoad, FixedRoads, KeptRoads, KnownRoad
-from ..roads.roads import QueryRoad, ReplicaRoad
-from ..roads.screen import MOST_INLINE, rows_of
-from .refusals import Refused
+from ..program.simulated_roads import MOST_INLINE, rows_of
 
 PREVIEW, VARIANTS = "preview", "variants"  # what fixed roads of a seat are
 

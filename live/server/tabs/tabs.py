@@ -19,21 +19,20 @@ from typing import TYPE_CHECKING, Callable, Deque, Mapping
 from aiohttp import WSMsgType, web
 from zegdrut.program.programs import describe_standing
 
-from ..background.supervised import supervise
+from ..base.json_values import to_json, Json
+from ..base.refusals import Refused, not_a_command
+from ..base.supervised import supervise
 from ..figures.figures import list_heads
-from ..journal.journal_lines import to_json
-from ..journal.lab import Lab
-from ..journal.road_clock import STEPS_AHEAD
 from ..journal.state import TAB_FORM
-from ..model.operations import Json
+from ..lab import new_road
+from ..lab.gestures import Lab
+from ..lab.road_clock import STEPS_AHEAD
 from ..model.reading import LONGEST_NAME
-from ..roads import new_road
-from ..roads.program import Times
+from ..program.program import Times
 from . import verbs
-from .new_connections import is_token
 from .fields import CommandFields
+from .new_connections import is_token
 from .questions import MOST_BYTES, MOST_ROWS, Questions, Reply
-from .refusals import Refused, not_a_command
 
 if TYPE_CHECKING:
     from aiohttp.web_protocol import RequestHandler

@@ -9,18 +9,20 @@ from zegdrut.program.grammar import LAST_HORIZON
 from zegdrut.program.rows import FASTEST as FASTEST_CAR
 from zegdrut.reports.report import MOST_SIDES
 
-from ..journal.keeper import SHARED
-from ..journal.lab import Author, Lab, require_variant
-from ..journal.road_clock import FASTEST
+from ..base.json_values import Json
+from ..base.names import fold_look_alikes
+from ..base.refusals import Refused, not_a_command
 from ..journal.state import Replica
-from ..model.operations import Json, Operation
+from ..lab.fixed_roads import FILE, SIDES, VARIANT
+from ..lab.gestures import Author, Lab, require_variant
+from ..lab.keeper import SHARED
+from ..lab.road_clock import FASTEST
+from ..lab.roads import QueryRoad
+from ..model.operations import Operation
 from ..model.reading import LONGEST_NAME, LONGEST_NOTE
-from ..roads.program import Times
-from ..roads.fixed_roads import FILE, SIDES, VARIANT
-from ..roads.roads import QueryRoad
-from .fields import CommandFields, fold_look_alikes
+from ..program.program import Times
+from .fields import CommandFields
 from .questions import Questions, Reply
-from .refusals import Refused, not_a_command
 
 MOST_SENTENCES = 200  # sentences about the change in a report
 NO_ROAD = frozenset[str]()  # the command has no `at`

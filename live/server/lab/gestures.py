@@ -1,4 +1,4 @@
-"""Make operations for seats, and share and take them.
+"""Make operations for seats, which are their gestures, and share and take them.
 
 An operation is checked, applied to the state, written to the journal, and given to the program, in this order. Since it was checked,
 the program accepts its edits. This module has no sockets.
@@ -10,25 +10,26 @@ import time
 from dataclasses import dataclass, replace
 from typing import TYPE_CHECKING, Awaitable, Callable, Mapping, TypedDict, TypeVar, Union
 
+from ..base.json_values import Json
+from ..base.refusals import Refused
+from ..journal.checks import Checks
+from ..journal.entries import Arrival, NamedVariant, OwnOperation, Share, Take
+from ..journal.state import Replica, SeatReplica, State, Variant
 from ..model.choices import find_overruling, sendable, find_undoable, would_change
 from ..model.demands import kept_demand, written_demand
 from ..model.lines import line_of
-from ..model.operations import About, Json, Operation, Shape, Stamp, exclude, lift, put, undo
+from ..model.operations import About, Operation, Shape, Stamp, exclude, lift, put, undo
 from ..model.reading import Malformed
 from ..model.road import Road, change, repeat
-from ..roads.program import Times
-from ..roads.screen import first_step
-from ..tabs.change_list import ListedOperation, Lister
-from ..tabs.refusals import Refused
-from ..tabs.seating import Seating
-from .checks import Checks
-from .entries import Arrival, NamedVariant, OwnOperation, Share, Take
+from ..program.program import Times
+from ..program.simulated_roads import first_step
+from .change_list import ListedOperation, Lister
 from .keeper import SHARED, Keeper, wait_until_written
 from .road_clock import RoadClock
-from .state import Replica, SeatReplica, State, Variant
+from .seating import Seating
 
 if TYPE_CHECKING:
-    from ..roads.new_road import NewRoad
+    from .new_road import NewRoad
 
 MOST_IN_TAKE = 200  # operations in the reply to a take
 LOOKED_AT = 500  # operations that are looked at for news

@@ -7,8 +7,8 @@ from typing import Mapping
 
 from zegdrut.program.grammar import LAST_HORIZON
 
-from ..tabs.refusals import Refused
-from .entries import Clock
+from ..base.refusals import Refused
+from ..journal.entries import Clock
 from .keeper import A_MOMENT, SHARED, Keeper, wait_until_written
 
 STEPS_AHEAD = 36_000  # steps that a replica may run ahead of the clock, and that the clock may be set forward

@@ -1,4 +1,4 @@
-"""Make the replicas of a program simulate roads: a screen sends them the edits that turn the road that they have into another one."""
+"""Make the replicas of a program simulate roads: send them the edits that turn the road that they have into another one."""
 from __future__ import annotations
 
 import asyncio
@@ -8,7 +8,7 @@ from typing import Deque
 
 from zegdrut.program.wire import WrittenEdit
 
-from ..journal.journal_lines import to_json
+from ..base.json_values import to_json
 from ..model.projection import Edits, difference, difference_like
 from ..model.road import Road
 from .program import Program, import_lines
@@ -57,7 +57,7 @@ class Differences:
         return await loop.run_in_executor(None, difference_like, known, before, after)
 
 
-class Screen:
+class SimulatedRoads:
     """A program, and the road that each of its replicas has."""
 
     def __init__(self, program: Program, empty: Road) -> None:

@@ -16,13 +16,14 @@ from zegdrut.roads.clock import Clock
 from zegdrut.roads.demand import find_rate
 from zegdrut.roads.units import to_steps
 
+from ..base.journal_lines import CannotStart
+from ..base.json_values import to_json, Json
 from ..journal.entries import Works
-from ..journal.journal_lines import CannotStart, to_json
-from ..journal.keeper import wait_until_written
-from ..journal.lab import Lab
 from ..model.demands import INFLOW, written_demand
-from ..model.operations import END, About, Json, Shape, put
+from ..model.operations import END, About, Shape, put
 from ..model.reading import LONGEST_NAME, Malformed, clean_text, read_shape
+from .gestures import Lab
+from .keeper import wait_until_written
 
 FREEWAY_FILE = "freeway.json"  # the file of a folder with the freeway in km that it began with
 WHO = "road file"  # who made the operations of a freeway's file

@@ -17,23 +17,23 @@ from typing import TYPE_CHECKING, Awaitable, Callable, Iterable, Mapping, TypeVa
 
 from zegdrut.program.grammar import LAST_HORIZON
 
-from ..background.listeners import Listeners
-from ..background.settings import Settings
-from ..background.supervised import supervise
-from ..model.operations import Json
+from ..base.journal_lines import JOURNAL, CannotStart, CorruptJournal, Entries, JournalLine
+from ..base.json_values import Json, to_json
+from ..base.listeners import Listeners
+from ..base.refusals import Refused, program_crashed
+from ..base.settings import Settings
+from ..base.supervised import supervise
+from ..journal.entries import JOURNAL_FORM, Clock, Entry, Folder, Forgetting, OwnOperation, read_plan_line, write_entry
+from ..journal.journal import Journal, NotWritten, explain_fault
+from ..journal.naming import Counter, new_site
+from ..journal.state import NO_PLAN, State
 from ..model.road import Road
-from ..roads.program import ProgramExited, Program, Times, command_of, start
-from ..roads.screen import Differences, Screen
-from ..roads.turns import MORE, Job, More, Turns
-from ..tabs.refusals import Refused, program_crashed
-from .entries import JOURNAL_FORM, Clock, Entry, Folder, Forgetting, OwnOperation, read_plan_line, write_entry
-from .journal import Journal, NotWritten, explain_fault
-from .journal_lines import JOURNAL, CannotStart, CorruptJournal, Entries, JournalLine, to_json
-from .naming import Counter, new_site
-from .state import NO_PLAN, State
+from ..program.program import ProgramExited, Program, Times, command_of, start
+from ..program.simulated_roads import Differences, SimulatedRoads
+from ..program.turns import MORE, Job, More, Turns
 
 if TYPE_CHECKING:
-    from ..roads.new_road import NewRoad
+    from .new_road import NewRoad
 
 MOST_UNDOABLE = 20  # newest private operations of a seat, which are never forgotten
 LONGEST_DISK_PAUSE = 60.0  # seconds between two tries of a disk that refuses writes
@@ -86,8 +86,8 @@ class Keeper:
         self.clock_started = time.monotonic()
         self._unapplied: dict[asyncio.Future[None], Entry] = {}  # written entries that take effect once they are on the disk
         self.differences = Differences()
-        self._screen: Screen | None = None
-        self._next: asyncio.Future[Screen] | None = None
+        self._simulated: SimulatedRoads | None = None
+        self._next: asyncio.Future[SimulatedRoads] | None = None
         self.tasks: list[asyncio.Task[None]] = []
         self.listeners = Listeners()
 
@@ -113,7 +113,7 @@ class Keeper:
             await self.record(Folder(JOURNAL_FORM, read_plan_line(first), own, road.origin, road.lead))
         self.clock_started = time.monotonic()
         self._forget()
-        self._screen = await self._start()
+        self._simulated = await self._start()
         self.supervise("the answers to tabs", self.turns.run)
         self.supervise("the watch over the disk", self._watch_disk)
         self.supervise("the task that shortens the journal", self.shorten_journal)
@@ -160,7 +160,7 @@ class Keeper:
         """End the program and close the journal. All that was confirmed is on the disk."""
         for task in self.tasks:
             task.cancel()
-        if self._screen is not None:
+        if self._simulated is not None:
             self.program.kill()
         self.cancel_successor()
         if hasattr(self, "journal"):
@@ -293,19 +293,19 @@ class Keeper:
 
     # The program
 
-    async def _start(self) -> Screen:
+    async def _start(self) -> SimulatedRoads:
         """Start a program, whose replicas all have the road of the plan."""
         program = await start(command_of(self.path, self.state.plan), to_json(self.state.plan).encode())
-        return Screen(program, self.state.empty)
+        return SimulatedRoads(program, self.state.empty)
 
     @property
-    def screen(self) -> Screen:
-        assert self._screen is not None
-        return self._screen
+    def simulated(self) -> SimulatedRoads:
+        assert self._simulated is not None
+        return self._simulated
 
     @property
     def program(self) -> Program:
-        return self.screen.program
+        return self.simulated.program
 
     async def _with_program(self, job: Callable[[], Awaitable[T]]) -> T:
         """Do a job with a program that runs and has no edits that failed to be written. Replace a program that exits, once."""
@@ -327,7 +327,7 @@ class Keeper:
         """Replace the program. The replicas of the new one get their roads when they are next asked."""
         self.cancel_successor()
         self.why_replaced = why
-        old, self._screen = self._screen, await self._start()
+        old, self._simulated = self._simulated, await self._start()
         self.replacements += 1
         if old is not None:
             old.program.kill()
@@ -354,40 +354,40 @@ class Keeper:
             successor, self._next = self._next, None
             if successor.exception() is None:
                 asyncio.ensure_future(self.program.close())
-                self._screen, self.replacements, self.why_replaced = successor.result(), self.replacements + 1, None
+                self._simulated, self.replacements, self.why_replaced = successor.result(), self.replacements + 1, None
                 self.listeners.program.notify()
             else:
                 logging.warning("a new program, which is to replace the present one, could not be started: %s", successor.exception())
         settings = self.settings
         is_due = (self.program.lines >= settings.most_lines or self.undo_count >= settings.most_undone
-                   or self.screen.withdrawn >= settings.most_withdrawn)
+                   or self.simulated.withdrawn >= settings.most_withdrawn)
         if self._next is None and is_due:
             self._forget()
             self._next = asyncio.ensure_future(self._start_successor())
 
-    async def _start_successor(self) -> Screen:
-        screen = await self._start()
+    async def _start_successor(self) -> SimulatedRoads:
+        simulated = await self._start()
         try:
             for index in (SHARED, *self.connected):
-                while not await self._run_to_target(screen, index):
+                while not await self._run_to_target(simulated, index):
                     pass
         except BaseException:
-            screen.program.kill()
+            simulated.program.kill()
             raise
-        return screen
+        return simulated
 
     def road(self, index: int) -> Road:
         """Return the road that a replica of the program shall simulate. The shared one has the operations that are on the disk."""
         return self.state.shared.upto(self.confirmed) if index == SHARED else self.state.seats[index].road
 
-    async def _run_to_target(self, screen: Screen, index: int) -> bool:
+    async def _run_to_target(self, simulated: SimulatedRoads, index: int) -> bool:
         """Send a replica its missing edits, or simulate some of its missing steps. Return whether nothing is missing any more."""
-        at, road, shown = self.state.replica(index).at, self.road(index), screen.shown(index)
+        at, road, shown = self.state.replica(index).at, self.road(index), simulated.shown(index)
         if shown is not road:
-            await screen.show(index, at, road, await self.differences.between(shown, road))
+            await simulated.show(index, at, road, await self.differences.between(shown, road))
             return False
         to = self.target_steps.get(index, 0)
-        return screen.program.horizons.get(at, 0) >= to or await screen.program.advance(at, to) >= to
+        return simulated.program.horizons.get(at, 0) >= to or await simulated.program.advance(at, to) >= to
 
     def ask(self, turn: int, replicas: tuple[int, ...], body: Job[T], at_leisure: bool = False,
             takes_long: bool | None = None) -> asyncio.Future[T]:
@@ -398,7 +398,7 @@ class Keeper:
             if len(failures) > 1:
                 raise NotKept(self.journal.fault or "the disk did not accept it")
             for index in replicas:
-                if not await self._run_to_target(self.screen, index):
+                if not await self._run_to_target(self.simulated, index):
                     return MORE
             return await body()
         failures: set[int] = set()

@@ -6,9 +6,9 @@ import time
 from typing import AbstractSet, Sequence, TypedDict
 
 from ..journal.state import Replica, SeatReplica, State
+from ..model.active_operations import NO_OPERATIONS
 from ..model.demands import demand_of, is_planned, stated_demand
 from ..model.lines import operations_on
-from ..model.active_operations import NO_OPERATIONS
 from ..model.operations import Operation, Shape, Stamp, describe_act
 from ..model.road import Road
 from ..model.visibility import Rectangle, covered_rectangles, find_overruled, visible_rectangles

@@ -19,8 +19,8 @@ from typing import Dict, Mapping, Sequence
 from zegdrut.program.refusals import Reasons
 from zegdrut.program.wire import WrittenEdit
 
-from ..journal.journal_lines import to_json
-from ..tabs.refusals import Refused
+from ..base.json_values import to_json
+from ..base.refusals import Refused
 
 LONGEST_REPLY = 1 << 26
 IMPORT_EDITS = 1_200  # edits of an import, so that its line has at most 65,536 bytes

@@ -10,12 +10,12 @@ from typing import Awaitable, Callable, NamedTuple, Sequence, TypeVar
 from zegdrut.figures.lost import AskedRates
 from zegdrut.program.wire import WrittenEdit
 
-from ..journal.journal_lines import to_json
-from ..journal.keeper import Keeper
+from ..base.json_values import to_json
+from ..base.refusals import Refused, program_crashed
 from ..model.road import Road
-from ..tabs.refusals import Refused, program_crashed
-from .program import Program, ProgramExited, Times, command_of, import_lines, start
-from .turns import Job, More
+from ..program.program import Program, ProgramExited, Times, command_of, import_lines, start
+from ..program.turns import Job, More
+from .keeper import Keeper
 
 SIDES = ("before", "after")  # the names of the two roads of a preview
 FILE = "file"  # the name of the road of the folder's file

@@ -3,10 +3,10 @@ from __future__ import annotations
 
 from typing import Protocol, TypeVar
 
-from ..journal.keeper import Keeper
 from ..model.road import Road
-from .program import Times
-from .turns import Job
+from ..program.program import Times
+from ..program.turns import Job
+from .keeper import Keeper
 
 T = TypeVar("T")
 

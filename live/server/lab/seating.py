@@ -14,13 +14,13 @@ import secrets
 import time
 from typing import Callable, TypedDict
 
+from ..base.names import fold_look_alikes
+from ..base.refusals import Refused
 from ..journal.entries import SeatRelease, SeatGrant, SeatUse
-from ..journal.keeper import A_MOMENT, SHARED, Keeper, NotKept, wait_until_written
 from ..journal.state import SeatReplica, State
 from ..model.operations import SEATS
 from ..model.reading import LONGEST_NAME, clean_text
-from .fields import fold_look_alikes
-from .refusals import Refused
+from .keeper import A_MOMENT, SHARED, Keeper, NotKept, wait_until_written
 
 JUMP = 60.0  # seconds that the system's clock must differ from the time that passed, to count as a jump
 NOTED = 1 / 24  # how often the use of a seat is noted, as a fraction of the time after which unused seats are freed

@@ -13,7 +13,7 @@ import zlib
 from pathlib import Path
 from typing import Iterator, Mapping
 
-from ..model.operations import Json
+from .json_values import Json
 
 JOURNAL = "journal.jsonl"
 JournalLine = Mapping[str, Mapping[str, Json]]
@@ -28,11 +28,6 @@ class CannotStart(Exception):
 
 class CorruptJournal(CannotStart):
     """The journal has a malformed line."""
-
-
-def to_json(value: object) -> str:
-    """Return a value as compact JSON in one line."""
-    return json.dumps(value, separators=(",", ":"), ensure_ascii=False, allow_nan=False)
 
 
 def journal_line(text: str, is_first: bool) -> bytes:

@@ -1,1 +1,0 @@
-"""Keep the server going: settings, listeners, and tasks that are watched and restarted."""

@@ -1,0 +1,1 @@
+"""Run the program, in fair turns, and let it simulate roads: send it the edits that change a road, and read its rows."""

@@ -1,1 +1,0 @@
-"""Simulate roads with the program, in fair turns, and send it the edits that change a road."""
