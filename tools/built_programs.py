@@ -1,8 +1,6 @@
 """The programs that this repository builds: where each of them is, and what source text it was made from.
 
 A program has the name of its crate. The proved one is crates/NAME/out/NAME, the unproved one is NAME_unproved in the same folder.
-.ci/proved has one line for the kit that the gate ran with, and one line "NAME SUM" for each program that it proved, where SUM is
-the checksum of the program's source text.
 """
 from __future__ import annotations
 
@@ -17,7 +15,6 @@ from zegdrut.program import programs  # noqa: E402  (the only import of the pack
 
 LABORATORY, WITHIN, CALLS = "road_lab", "tests_within", "tests_failures"
 PROGRAMS = (LABORATORY, WITHIN, CALLS)
-PROVED_TEXTS = TOP / ".ci" / "proved"
 
 
 def crate_of(name: str) -> Path:
@@ -92,18 +89,3 @@ def find_unwritable(folder: Path) -> str | None:
 def kit_name() -> str:
     """Return the line that names the kit. Raises OSError or CalledProcessError if `rt` does not run."""
     return subprocess.run(["rt", "version"], capture_output=True, text=True, check=True).stdout.strip()
-
-
-def is_proved_by_gate(name: str, kit: str) -> bool:
-    """Return whether .ci/proved says that the gate has proved the present text of a program with this kit."""
-    try:
-        lines = PROVED_TEXTS.read_text(encoding="utf-8").splitlines()
-    except OSError:
-        return False
-    return kit in lines and f"{name} {text_of(name)}" in lines
-
-
-def note_gate(texts: dict[str, str], kit: str) -> None:
-    """Write .ci/proved: the kit, and the checksum of the text of each program that the gate has proved."""
-    lines = [kit, *(f"{name} {text}" for name, text in texts.items())]
-    PROVED_TEXTS.write_text("\n".join(lines) + "\n", encoding="utf-8")

@@ -12,11 +12,12 @@ to type is printed, and the parts that need them are left out. Ctrl-C ends every
 
 With --proof nothing may be left out: if a package is missing, nothing is proved, and a part that prints a line `left out: ..` has
 failed. So has one that prints BAD EDIT, as `rt ci` does for an edit that does not fit the code. `K skipped` counts the mutants that
-are due. Without --proof it counts the parts that were left out, and the lines `left out: ..`.
+are due. Without --proof it counts the parts that were left out, and the lines `left out: ..`. If all parts run, it also counts
+.ci/proved if that file does not name the present text of the program; a line before the last one says so.
 
 Only `mutants` needs a proof, and is left out without --proof. Missing programs are made without a proof; `refused-uses` and
 `lost-worker` look for errors that are found without one. `failures` needs programs without the compiler's checks: if they are
-not proved, and .ci/proved does not have the checksum of their text, it is left out. If ROAD_LAB names a program, it is used in
+not proved, and .ci/proved does not name their text, it is left out. If ROAD_LAB names a program, it is used in
 place of the one in crates/road_lab.
 """
 from __future__ import annotations
@@ -31,14 +32,18 @@ if __name__ == "__main__":
     processes.end_on_signals()
 
 import argparse  # noqa: E402
+import shutil
+import subprocess
 import time
 
 import check_parts
 import packages
-from built_programs import TOP, find_unwritable
+from built_programs import LABORATORY, TOP, find_unwritable
+from proved_texts import is_proved
 from running_parts import Report, run_all
 
 LOGS = TOP / "out" / "check"
+TAKEN = {"python3": sys.executable, "node": "node", "chromium": "chromium", "rt": "rt"}  # commands whose versions decide what is tested
 
 
 def read_options() -> argparse.Namespace:
@@ -61,15 +66,39 @@ def check(options: argparse.Namespace) -> int:
     if why:
         print(f"./check: {why} Copy {TOP} to a folder of your own, and run it there.", file=sys.stderr)
         return 1
+    for name, command in TAKEN.items():
+        print(f"{name:<20} {describe_command(command)}", flush=True)
     parts = check_parts.choose(options.names, options.proof)
     missing = packages.provide({part.name for part in parts})
     if missing:
         print(f"Not installed: {' '.join(missing)}. To install them:\n    {packages.command_line(missing)}", flush=True)
     report = Report(LOGS, is_strict=options.proof)
+    stale = None if options.names else describe_stale_record(options.proof)
     run_all(check_parts.with_programs(parts, options.proof), options.processors or processes.find_processors(), report)
     print(f"{(time.monotonic() - began) / 60:.1f} minutes")
+    if stale:
+        report.skip(stale)
     print(report.closing_line(), flush=True)
     return 0 if report.has_passed() else 1
+
+
+def describe_command(command: str) -> str:
+    """Return the path of a command and the line that names its version, or "none"."""
+    path = shutil.which(command)
+    if path is None:
+        return "none"
+    ran = subprocess.run([path, "version" if command == "rt" else "--version"], capture_output=True, text=True, check=False)
+    return " ".join([path, *ran.stdout.strip().splitlines()[:1]])
+
+
+def describe_stale_record(is_proved_now: bool) -> str | None:
+    """Return a sentence with the cure if .ci/proved does not name the present text of the program, or None if it does or there is no
+    kit."""
+    kit = check_parts.find_kit()
+    if kit is None or is_proved(LABORATORY, kit):
+        return None
+    cure = "if the part proof has passed, it names it now: commit it" if is_proved_now else "`tools/prove-program` proves it and writes it there; then commit the file"
+    return f".ci/proved did not name the present text of {LABORATORY}: {cure}"
 
 
 def main() -> int:

@@ -8,10 +8,10 @@ from pathlib import Path
 from typing import Iterable, Sequence
 
 import packages
-from built_programs import (CALLS, LABORATORY, PROGRAMS, WITHIN, current_path, is_proved_by_gate, kit_name, proved_path,
-                            unproved_path)
+from built_programs import CALLS, LABORATORY, PROGRAMS, WITHIN, current_path, kit_name, proved_path, unproved_path
+from proved_texts import is_proved
 
-FIRST, GATE, RECORD = "pages", "proof", "record"  # FIRST takes seconds: if it fails, the proof, which takes long, does not begin
+FIRST, GATE = "pages", "proof"  # FIRST takes seconds: if it fails, the proof, which takes long, does not begin
 NO_KIT = "there is no `rt` on the PATH: add the bin folder of the Rattle kit"
 MOST = 64  # processors: stands for all processors of the machine
 MINUTES_OF_MUTANTS = 10
@@ -86,13 +86,10 @@ def with_programs(parts: Iterable[Part], proof: bool) -> list[Part]:
 
 
 def with_proof(parts: Sequence[Part]) -> list[Part]:
-    """Return the check of pages, the proof, and then the other parts, with the proved programs. If these are all parts, the last one
-    records that they have passed."""
+    """Return the check of pages, the proof, and then the other parts, with the proved programs."""
     first, others = [part for part in parts if part.name == FIRST], [part for part in parts if part.name != FIRST]
     proved = {name: proved_path(name) for name in PROGRAMS}
-    chosen = [*first, gate(tuple(part.name for part in first)), *(by_programs(part, proved, (GATE,)) for part in others)]
-    is_whole = len(parts) == len(all_parts())
-    return [*chosen, record(tuple(part.name for part in chosen))] if is_whole else chosen
+    return [*first, gate(tuple(part.name for part in first)), *(by_programs(part, proved, (GATE,)) for part in others)]
 
 
 def without_packages(part: Part, proof: bool) -> Part:
@@ -108,7 +105,7 @@ def without_kit(part: Part, kit: str | None) -> Part:
     if kit is None and part.needs_kit:
         return replace(part, left_out=NO_KIT)
     for name in part.programs if part.without_checks else ():
-        if current_path(name, with_checks=False) is None and not (kit and is_proved_by_gate(name, kit)):
+        if current_path(name, with_checks=False) is None and not (kit and is_proved(name, kit)):
             return replace(part, left_out=f"{name} is not proved, and .ci/proved does not name its present text: so it can only "
                            "be made with the compiler's checks, and then no call can be made to fail")
     return part
@@ -123,23 +120,18 @@ def find_kit() -> str | None:
 
 
 def find_program(name: str, kit: str | None) -> Path | None:
-    """Return a program of the present text, or None if it has to be made. A program with checks is made again once the gate has
-    proved its text."""
+    """Return a program of the present text, or None if it has to be made. A program with checks is made again once its text
+    has been proved."""
     given = os.environ.get("ROAD_LAB") if name == LABORATORY else None
     if given:
         return Path(given).absolute()
-    return current_path(name, with_checks=not (kit and is_proved_by_gate(name, kit)))
+    return current_path(name, with_checks=not (kit and is_proved(name, kit)))
 
 
 def gate(before: tuple[str, ...]) -> Part:
-    """Find edits that do not fit the code, prove everything, and record next to each program which text was proved."""
+    """Find edits that do not fit the code, prove everything, and record which texts were proved."""
     return Part(GATE, "", ("tools/try-mutants --read", "text=$(tools/prove-program --text)", "rt ci", "tools/prove-program --record $text"),
                 processors=MOST, before=before, is_shown=True)
-
-
-def record(before: tuple[str, ...]) -> Part:
-    """Record in .ci/proved that the gate has passed with the text of these programs."""
-    return Part(RECORD, "", ("tools/prove-program --passed",), before=before)
 
 
 def make(name: str, kit: str | None) -> Part:

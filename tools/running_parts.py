@@ -63,7 +63,7 @@ class Report:
 
     def __init__(self, folder: Path, is_strict: bool) -> None:
         self.folder, self.is_strict, self.outcomes = folder, is_strict, dict[str, str]()
-        self.skipped = 0  # what parts that passed have left out, and mutants that are due
+        self.skipped = 0  # what parts that passed have left out, mutants that are due, and what `skip` has counted
         shutil.rmtree(folder, ignore_errors=True)
         folder.mkdir(parents=True)
         self._width, self._counts = 0, sys.stdout.isatty()
@@ -85,6 +85,11 @@ class Report:
         self.skipped += sum(int(match[1]) for match in due) + (0 if self.is_strict else len(left_out))
         for line in (*bad, *left_out, *(match.string for match in due)):
             print(f"{'':<20} {line}", flush=True)
+
+    def skip(self, why: str) -> None:
+        """Count something that was left undone outside of the parts, and print why."""
+        self.skipped += 1
+        print(why, flush=True)
 
     def show_running(self, runs: Sequence[Run]) -> None:
         """Print on a terminal which parts are running, in a line that the next line replaces."""

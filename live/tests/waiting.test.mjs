@@ -1,6 +1,7 @@
 // Demands and capacities that wait until the server has measured them.
 
 import assert from "node:assert/strict";
+import {webcrypto} from "node:crypto";
 import {readFileSync} from "node:fs";
 import {beforeEach, test} from "node:test";
 
@@ -17,6 +18,7 @@ const PLAN = {...JSON.parse(readFileSync(new URL("../plan.json", import.meta.url
 const CURVE = {points: [[0, 0], [2000, 2000]], capacity: 2000};
 const settled = () => new Promise((done) => { setTimeout(done, 5); });
 globalThis.sessionStorage = {setItem() {}};
+globalThis.crypto ??= webcrypto; // Debian's Node has it in this module alone
 
 let gestures, curves, questions;
 

@@ -85,7 +85,7 @@ class Scripts(unittest.TestCase):
     def setUp(self) -> None:
         self.folder = Path(self.enterContext(tempfile.TemporaryDirectory()))
 
-    def run_script(self, name: str, *words: str, python: str = sys.executable, **changes: tuple[str, str]) -> subprocess.CompletedProcess[str]:
+    def run_script(self, name: str, *words: str, **changes: tuple[str, str]) -> subprocess.CompletedProcess[str]:
         """Run the script in the folder `name`, after changes of a text in one of its files."""
         folder = self.folder / name
         folder.mkdir(exist_ok=True)
@@ -93,7 +93,7 @@ class Scripts(unittest.TestCase):
             old, new = changes.get(file, ("", ""))
             self.assertIn(old, text)
             (folder / f"{file}.py").write_text(text.replace(old, new) if old else text, encoding="utf-8")
-        return subprocess.run([python, "script.py", *words], cwd=folder, capture_output=True, text=True, check=False,
+        return subprocess.run([sys.executable, "script.py", *words], cwd=folder, capture_output=True, text=True, check=False,
                               env={**os.environ, "PYTHONPATH": str(TOP), "PYTHONDONTWRITEBYTECODE": "1"})
 
     def marks(self, name: str, **changes: tuple[str, str]) -> list[str]:
@@ -136,15 +136,6 @@ class Scripts(unittest.TestCase):
                 seen.add(mark)
         self.assertNotEqual(self.marks("two", script=("Flows(10, 20)", "Flows(10, 21)"))[1], whole[1])
 
-    def test_another_python(self) -> None:
-        other = "/usr/bin/python3"
-        if not os.path.exists(other) or subprocess.run([other, "-VV"], capture_output=True, check=True).stdout == subprocess.run(
-                [sys.executable, "-VV"], capture_output=True, check=True).stdout:
-            self.skipTest("no second Python")
-        self.assertEqual(self.run_script("one", "out.csv").returncode, 0)
-        ran = self.run_script("one", "out.csv", python=other)
-        self.assertIn("out.csv has results of road-", ran.stderr.splitlines()[-1])
-
     def test_a_table_is_continued_by_the_same_script_alone(self) -> None:
         self.assertEqual(self.run_script("one", "out.csv").returncode, 0)
         whole = (self.folder / "one" / "out.csv").read_bytes()
@@ -175,6 +166,16 @@ class Marks(unittest.TestCase):
         self.assertEqual(len(sweep(model, {"x": [1, 2]}, out=self.out, version="3").rows), 2)
         with self.assertRaisesRegex(OtherMark, "has results of model@3-.*, but the model is now model@4-"):
             sweep(model, {"x": [1]}, out=self.out, version="4")
+
+    def test_the_python(self) -> None:
+        """The name and the version of Python count; with `version` they do not."""
+        def model() -> None:
+            pass
+        marks = [make_mark(model, None, python=python) for python in ("CPython 3.11.2", "CPython 3.11.7", "PyPy 3.11.2")]
+        self.assertEqual(len({mark.text for mark in marks}), 3)
+        self.assertEqual(marks[0].changes(marks[1].parts), ["Python"])
+        self.assertRegex(make_mark(model, None).parts["Python"], r"^CPython 3\.\d+\.\d+")
+        self.assertEqual(*(make_mark(model, None, "1", python=python).text for python in ("CPython 3.11.2", "CPython 3.11.7")))
 
     def test_a_function_that_was_typed(self) -> None:
         """Type functions without a file: each is known by its instructions."""
@@ -230,7 +231,7 @@ class Marks(unittest.TestCase):
             self.assertEqual(ran.returncode, 0, ran.stderr)
         for out, before in (("out.csv", None), ("../part-1.csv", (self.folder / "part-1.csv").read_bytes())):
             ran = run("right", "--out", out, "--take", "../part-3.csv", "../part-2.csv")
-            self.assertRegex(ran.stderr, "^../part-2.csv has results of model-[0-9a-f]{12}, but the model is now model-[0-9a-f]{12}; changed: "
+            self.assertRegex(ran.stderr.splitlines()[-1], "^../part-2.csv has results of model-[0-9a-f]{12}, but the model is now model-[0-9a-f]{12}; changed: "
                                          "model.LIMIT: name a different file")
             self.assertEqual(ran.returncode, 1)
             path = self.folder / "right" / out

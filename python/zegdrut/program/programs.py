@@ -92,13 +92,18 @@ def list_crates(name: str) -> dict[str, list[str]]:
     return {one: dependencies[one] for one in sorted(found)}
 
 
+def list_files(crate: str) -> list[Path]:
+    """Return the files of a crate that determine the program, sorted by path."""
+    return sorted(path for part in PARTS for path in (CRATES / crate / part).rglob("*") if path.is_file())
+
+
 def sum_text(program: str = "road_lab") -> str:
     """Return the SHA-256 of a program's source text: names and bytes of all files of its crates that determine it, and their
     dependencies."""
     total = hashlib.sha256()
     for name, below in list_crates(program).items():
         total.update(f"{name}: {' '.join(below)}\n".encode())
-        for path in sorted(path for part in PARTS for path in (CRATES / name / part).rglob("*") if path.is_file()):
+        for path in list_files(name):
             text = path.read_bytes()
             total.update(f"{path.relative_to(CRATES)} {len(text)}\n".encode() + text)
     return total.hexdigest()
@@ -152,7 +157,7 @@ def describe_standing(path: Path | str) -> str | None:
         return None
     if made.checks:
         return f"{path.name} is not proved: it is tested, and about ten times slower because of its run-time checks; {proves}"
-    return f"{path.name} is not proved itself, but was made from a source text that the gate has proved: {proves}"
+    return f"{path.name} is not proved itself, but was made from a source text that has been proved: {proves}"
 
 
 def is_repository() -> bool:

@@ -35,6 +35,7 @@ from ..program.errors import Fault
 from ..program.programs import describe_program
 
 PACKAGE = Path(__file__).resolve().parents[1]
+PYTHON = f"{platform.python_implementation()} {platform.python_version()}"
 TOO_DEEP = 100
 """The depth of nested values at which a value counts as unknown."""
 SKIPPED = {"__dict__", "__weakref__", "__module__", "__doc__", "__annotations__", "__firstlineno__", "__static_attributes__", "__abstractmethods__",
@@ -67,8 +68,9 @@ class Mark:
 
 
 def make_mark(model: Callable[..., object], measure: Callable[..., object] | None, version: str | None = None,
-              program: Path | str | None = None) -> Mark:
+              program: Path | str | None = None, python: str = PYTHON) -> Mark:
     """Return the mark of a model and its measurement. With `version`, this string stands for their source, Python and packages.
+    `python` names the Python that runs them.
 
     Unknown: a part cannot be recognised in a later run. The message names it, and says what to do.
     """
@@ -76,7 +78,7 @@ def make_mark(model: Callable[..., object], measure: Callable[..., object] | Non
     parts = {"the program": describe_program(program), "zegdrut": sum_package()}
     if version is not None:
         return Mark(f"{name}@{version}-{digest(sorted(parts.items()))[:12]}", {**parts, "version": version})
-    parts = {**Reach().parts(model, measure), **parts, "Python": f"{platform.python_implementation()} {platform.python_version()}"}
+    parts = {**Reach().parts(model, measure), **parts, "Python": python}
     return Mark(f"{name}-{digest(sorted(parts.items()))[:12]}", parts)
 
 
