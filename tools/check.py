@@ -12,8 +12,9 @@ to type is printed, and the parts that need them are left out. Ctrl-C ends every
 
 With --proof nothing may be left out: if a package is missing, nothing is proved, and a part that prints a line `left out: ..` has
 failed. So has one that prints BAD EDIT, as `rt ci` does for an edit that does not fit the code. `K skipped` counts the mutants that
-are due. Without --proof it counts the parts that were left out, and the lines `left out: ..`. If all parts run, it also counts
-.ci/proved if that file does not name the present text of the program; a line before the last one says so.
+are due, and the edits that a proof file alone refuses. Without --proof it counts the parts that were left out, and the lines
+`left out: ..`. If all parts run, it also counts .ci/proved if that file does not name the present text of the program; a line before
+the last one says so.
 
 Only `mutants` needs a proof, and is left out without --proof. Missing programs are made without a proof; `refused-uses` and
 `lost-worker` look for errors that are found without one. `failures` needs programs without the compiler's checks: if they are

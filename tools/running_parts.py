@@ -22,6 +22,7 @@ LONGEST = 3_600  # seconds that a part may run without printing anything
 PASSED, FAILED, LEFT_OUT = "ok", "FAILED", "left out"
 SAYS_LEFT_OUT = "left out: "  # a test begins a line with this if the test itself leaves something out
 SAYS_BAD_EDIT = ": BAD EDIT: "  # rt says this of an edit that cannot be applied or compiled; `rt ci` then passes
+SAYS_BY_ANSWER = ": refused, as it must be (only because a proof file names what the edit took away"  # this refusal shows nothing
 DUE = re.compile(r"(\d+) mutants are due\b")  # the last line of tools/try-mutants
 
 
@@ -79,11 +80,12 @@ class Report:
         """Record a part that ended with status 0: its output decides whether it has passed. Print the lines that say so."""
         lines = output.splitlines()
         bad, left_out = [line for line in lines if SAYS_BAD_EDIT in line], [line for line in lines if line.startswith(SAYS_LEFT_OUT)]
+        answered = [line for line in lines if SAYS_BY_ANSWER in line]
         due = [match for match in map(DUE.match, lines) if match]
         has_failed = bad or self.is_strict and left_out
         self.add(part, FAILED if has_failed else PASSED, seconds)
-        self.skipped += sum(int(match[1]) for match in due) + (0 if self.is_strict else len(left_out))
-        for line in (*bad, *left_out, *(match.string for match in due)):
+        self.skipped += sum(int(match[1]) for match in due) + len(answered) + (0 if self.is_strict else len(left_out))
+        for line in (*bad, *answered, *left_out, *(match.string for match in due)):
             print(f"{'':<20} {line}", flush=True)
 
     def skip(self, why: str) -> None:
