@@ -5,7 +5,7 @@
 import sys
 
 from zegdrut import Plan, RoadLab, to_array
-from zegdrut.program.rows import NO_NUMPY
+from zegdrut.program.road_rows import NO_NUMPY
 
 try:
     import numpy

@@ -23,9 +23,9 @@ from server.journal.entries import read_plan_line
 from server.model.reading import read_operation
 from server.shell.put import InvalidWords, find_chance, find_state, read_change
 from works import admits
+from zegdrut.base.units import METRES, Units
+from zegdrut.base.wire import WrittenEdit
 from zegdrut.roads.clock import Clock
-from zegdrut.roads.units import METRES, Units
-from zegdrut.program.wire import WrittenEdit
 
 PLAN = read_plan_line(SMALL)
 UNITS = Units(METRES, 1.0)

@@ -7,7 +7,7 @@ from fractions import Fraction
 from typing import Any
 
 from zegdrut import Edit, Plan, RoadLab, Stamp
-from zegdrut.program.checks import encode_line
+from zegdrut.base.argument_checks import encode_line
 
 RIGHT: dict[str, Any] = {"length": 40, "inlets": [(0, 65_536)], "zones": [(3, 0)]}
 NAN = math.nan

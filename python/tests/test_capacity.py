@@ -11,7 +11,7 @@ from zegdrut import Fault, RoadLab
 from zegdrut.commands.freeway import FIGURES
 from zegdrut.roads.capacity import describe_capacity, find_capacity
 from zegdrut.roads.demand import Drivers
-from zegdrut.roads.freeway import Figures, make_road, make_shapes
+from zegdrut.roads.road_in_cells import Figures, make_road, make_shapes
 from zegdrut.roads.road_scripts import make_script
 
 SEEDS = range(1, 7)

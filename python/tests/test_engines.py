@@ -44,15 +44,15 @@ DAYS = '''
 import sys
 from concurrent.futures import ProcessPoolExecutor
 from pathlib import Path
-from zegdrut.calibration import Bounds, Search, calibrate
 from zegdrut.commands.calibrate import read_arguments
 from zegdrut.commands.freeway import FIGURES
 from zegdrut.commands.measured import read_days
 from zegdrut.commands.metering import make_site, read_control, run_days
-from zegdrut.days import run_over_days
+from zegdrut.figures.days import run_over_days
 from zegdrut.figures.trips import Window
-from zegdrut.report import Side, run_sides
-from zegdrut.scripts import read_script
+from zegdrut.measurements.calibration import Bounds, Search, calibrate
+from zegdrut.program.scripts import read_script
+from zegdrut.reports.report_tables import Side, run_sides
 
 STEPS = 1_200
 Path("road.json").write_text('{"length": 1.5, "limit": 135, "slowing": 0.1, "begin": "06:30", "minutes": 20, "main": 900, "ramps": [[0.7, 100]],'

@@ -10,10 +10,10 @@ import unittest
 import unittest.mock
 
 from test_page import TOP, find_python
-from zegdrut.program.bars import Bar
-from zegdrut.roads.clock import Clock
+from zegdrut.base.progress_bars import Bar
+from zegdrut.base.units import format_fixed
 from zegdrut.reports.pictures import Chart, Line, draw_field
-from zegdrut.roads.units import format_fixed
+from zegdrut.roads.clock import Clock
 
 HOUR = 3_600
 
@@ -87,7 +87,7 @@ class Bars(unittest.TestCase):
 
     def draw(self, *setup: str) -> str:
         """Return what a sweep of six runs writes to standard error, without the numbers of tqdm that depend on time."""
-        code = "\n".join([*setup, "import time", "from zegdrut.sweeps import sweep", "from zegdrut.program.bars import Bar",
+        code = "\n".join([*setup, "import time", "from zegdrut.sweeps import sweep", "from zegdrut.base.progress_bars import Bar",
                           "from zegdrut.commands.sweep import show_on", "bar = Bar('runs', in_log=True)",
                           "def model(x, seed):\n    time.sleep(0.2)\n    return {'y': 6 / x}",
                           "sweep(model, {'x': range(6)}, jobs=1, progress=show_on(bar)); bar.end()"])

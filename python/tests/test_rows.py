@@ -7,7 +7,7 @@ import unittest
 
 from test_page import TOP, find_python
 from zegdrut import measure_traffic
-from zegdrut.program.rows import Sums, to_array, add_up
+from zegdrut.program.road_rows import Sums, to_array, add_up
 
 ROWS = ["0..2.#", "9.1..."]
 
@@ -34,7 +34,7 @@ for length, to in ((60, 2_500), (8_192, 700)):
                 raise AssertionError("no error")
             except ValueError as fault:
                 assert str(fault) == "there are no cells or no rows"
-from zegdrut.program.rows import Rows
+from zegdrut.program.road_rows import Rows
 fast = Rows.read(b'{"rows":[' + b",".join([b'"9' + b"." * 399 + b'"'] * 20_000) + b"]}")
 assert fast.add_up(0, 1) == (20_000, 180_000, 20_000) and fast.add_up(0, None) == (20_000, 180_000, 8_000_000)
 print("as expected")

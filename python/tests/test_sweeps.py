@@ -17,11 +17,11 @@ from typing import Any
 
 from test_page import TOP, find_python
 from zegdrut import Fault, NoProgram, Plan, RoadLab
+from zegdrut.base.progress_bars import format_duration
 from zegdrut.commands.sweep import read_seeds, read_values
-from zegdrut.program.bars import format_duration
+from zegdrut.sweeps import Failure, Flows, make_grid, sweep
 from zegdrut.sweeps.pool import run_in_parallel
 from zegdrut.sweeps.results import Results, Row, read_rows, parse_cell, format_cell
-from zegdrut.sweeps import Failure, Flows, make_grid, sweep
 
 MODEL = '''
 import os, time

@@ -10,12 +10,12 @@
 
 Units are cells and steps; usually a cell is 7.5 m and a step 1 s. Chances are whole numbers of 1/65,536.
 """
-from .program.errors import Ended, Fault, LabBroken, LabCancelled, LabError, LabTimeout, Refused
+from .base.errors import Ended, Fault, LabBroken, LabCancelled, LabError, LabTimeout, Refused
 from .program.lab import RoadLab
 from .program.plan import Plan
 from .program.programs import NoProgram, program_path
 from .program.records import Car, Count, Crowd, Edit, Head, Kind, Lost, Object, Stamp, find_lost
-from .program.rows import BLOCKED, EMPTY, Traffic, to_array, measure_traffic
+from .program.road_rows import BLOCKED, EMPTY, Traffic, to_array, measure_traffic
 
 __all__ = ["BLOCKED", "Car", "Count", "Crowd", "EMPTY", "Edit", "Ended", "Fault", "Head", "Kind", "LabBroken", "LabCancelled", "LabError",
            "LabTimeout", "Lost", "NoProgram", "Object", "Plan", "Refused", "RoadLab", "Stamp", "Traffic", "find_lost", "measure_traffic",

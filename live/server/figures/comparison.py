@@ -10,13 +10,13 @@ import ctypes
 import signal
 from typing import Awaitable, Callable, Iterator, NamedTuple, Sequence, TypedDict
 
+from zegdrut.base.intervals import warn_few_days
 from zegdrut.figures import Value, compare_roads, measure_roads
 from zegdrut.figures.days import SEEDS
-from zegdrut.figures.intervals import warn_few_days
 from zegdrut.figures.queues import Ends
 from zegdrut.figures.simulation import iterate_days
 from zegdrut.figures.trips import Window
-from zegdrut.reports.report import run_side
+from zegdrut.reports.report_tables import run_side
 
 from ..base.refusals import Refused
 from . import child

@@ -6,10 +6,10 @@ import io
 import time
 from typing import Callable, Iterable, Iterator, Mapping, Sequence
 
+from zegdrut.base.units import Units
+from zegdrut.base.wire import PlanLine, WrittenEdit
 from zegdrut.figures.trips import Window
-from zegdrut.program.wire import PlanLine, WrittenEdit
 from zegdrut.roads.clock import Clock
-from zegdrut.roads.units import Units
 
 from ..base.json_values import to_json
 from ..base.refusals import Refused

@@ -6,9 +6,9 @@ from ..model.layers import values_of
 from ..model.operations import CAPACITY, SEATS, Operation
 from ..model.reading import Malformed, read_operation
 
+from zegdrut.base.wire import PlanLine
 from zegdrut.program.grammar import KINDS, LAST_STEP
-from zegdrut.program.refusals import Reasons
-from zegdrut.program.wire import PlanLine
+from zegdrut.program.refusal_reasons import Reasons
 
 
 class Checks:

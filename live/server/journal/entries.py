@@ -12,9 +12,9 @@ import dataclasses
 from dataclasses import dataclass
 from typing import TYPE_CHECKING, Callable, ClassVar, Mapping, Sequence, TypeVar, cast
 
+from zegdrut.base.units import METRES, Units
+from zegdrut.base.wire import PlanLine
 from zegdrut.program.grammar import PLAN, check_fields
-from zegdrut.program.wire import PlanLine
-from zegdrut.roads.units import METRES, Units
 
 from ..base.journal_lines import CannotStart, JournalLine
 from ..base.json_values import Json

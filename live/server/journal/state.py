@@ -13,8 +13,8 @@ from __future__ import annotations
 import asyncio
 from typing import Iterable, Iterator, Mapping, Sequence
 
-from zegdrut.program.wire import PlanLine
-from zegdrut.roads.units import METRES, Units
+from zegdrut.base.units import METRES, Units
+from zegdrut.base.wire import PlanLine
 
 from ..base.journal_lines import CorruptJournal
 from ..model.choices import find_forgettable, shareable

@@ -7,8 +7,8 @@ import logging
 import time
 from typing import Awaitable, Callable, NamedTuple, Sequence, TypeVar
 
-from zegdrut.figures.lost import AskedRates
-from zegdrut.program.wire import WrittenEdit
+from zegdrut.base.wire import WrittenEdit
+from zegdrut.figures.lost_demand import AskedRates
 
 from ..base.json_values import to_json
 from ..base.refusals import Refused, program_crashed

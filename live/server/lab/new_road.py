@@ -10,11 +10,11 @@ from dataclasses import dataclass, field
 from pathlib import Path
 from typing import Iterator, Mapping, NotRequired, Sequence, TypedDict, cast
 
+from zegdrut.base.units import to_steps
+from zegdrut.base.wire import PlanLine
 from zegdrut.commands.freeway import FIGURES
-from zegdrut.program.wire import PlanLine
 from zegdrut.roads.clock import Clock
 from zegdrut.roads.demand import find_rate
-from zegdrut.roads.units import to_steps
 
 from ..base.journal_lines import CannotStart
 from ..base.json_values import to_json, Json

@@ -16,8 +16,8 @@ import time
 from pathlib import Path
 from typing import Dict, Mapping, Sequence
 
-from zegdrut.program.refusals import Reasons
-from zegdrut.program.wire import WrittenEdit
+from zegdrut.base.wire import WrittenEdit
+from zegdrut.program.refusal_reasons import Reasons
 
 from ..base.json_values import to_json
 from ..base.refusals import Refused

@@ -6,7 +6,7 @@ import collections
 import logging
 from typing import Deque
 
-from zegdrut.program.wire import WrittenEdit
+from zegdrut.base.wire import WrittenEdit
 
 from ..base.json_values import to_json
 from ..model.projection import Edits, difference, difference_like

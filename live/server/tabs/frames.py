@@ -3,7 +3,7 @@ from __future__ import annotations
 
 from typing import Mapping, Sequence, TypedDict
 
-from zegdrut.program.wire import PlanLine, WrittenEdit
+from zegdrut.base.wire import PlanLine, WrittenEdit
 
 from ..base.json_values import Json
 from ..figures.figures import DetectorFigures, Head, MeanTimes, Row

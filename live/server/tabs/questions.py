@@ -7,15 +7,15 @@ import time
 from typing import Mapping, Sequence, TypeVar, Union
 
 from zegdrut import Edit
-from zegdrut.figures.lost import find_entry
+from zegdrut.base.units import Units
+from zegdrut.base.wire import WrittenEdit
+from zegdrut.figures.lost_demand import find_entry
 from zegdrut.figures.table import PER_LANE
 from zegdrut.figures.trips import Window
 from zegdrut.program.grammar import LAST_HORIZON
-from zegdrut.program.rows import count_cars
-from zegdrut.program.wire import WrittenEdit
+from zegdrut.program.road_rows import count_cars
 from zegdrut.roads.clock import Clock
-from zegdrut.roads.freeway import leave_out_approach
-from zegdrut.roads.units import Units
+from zegdrut.roads.road_in_cells import leave_out_approach
 
 from ..base.json_values import to_json, Json
 from ..base.refusals import Refused

@@ -11,7 +11,7 @@ import asyncio
 import functools
 from typing import Mapping, Sequence
 
-from zegdrut.program.wire import WrittenEdit
+from zegdrut.base.wire import WrittenEdit
 
 from ..base.refusals import Refused
 from ..figures.figures import ComparedRoad

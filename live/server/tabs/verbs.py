@@ -6,8 +6,8 @@ from dataclasses import dataclass
 from typing import Awaitable, Callable, Sequence, TypeVar
 
 from zegdrut.program.grammar import LAST_HORIZON
-from zegdrut.program.rows import FASTEST as FASTEST_CAR
-from zegdrut.reports.report import MOST_SIDES
+from zegdrut.program.road_rows import FASTEST as FASTEST_CAR
+from zegdrut.reports.report_tables import MOST_SIDES
 
 from ..base.json_values import Json
 from ..base.names import fold_look_alikes

@@ -29,22 +29,22 @@ import sys
 from pathlib import Path
 from typing import NamedTuple, Sequence
 
+from ..base.errors import Fault, LabError, describe_error
+from ..base.progress_bars import Bar
+from ..base.units import count_things
 from ..measurements.calibration import (DELAY_UNCERTAINTY, NAMES, TERMS, TOTAL_UNCERTAINTY, Alternatives, Bounds, Calibration, MeasuredDay, Misfit,
                                         Point, Search, Trial, apply_point, calibrate, find_alternatives, find_chance, is_congested, list_limits,
                                         make_calibrated)
-from ..measurements.comparison import compare_hours, make_model, with_measured_demand
 from ..measurements.congestion import CONGESTED, Both, compare_time_lost, list_segments, simulate_segments
-from ..measurements.measured import TIME_MEAN, Measured
-from ..program.bars import Bar
-from ..program.errors import Fault, LabError, describe_error
+from ..measurements.counts_on_road import TIME_MEAN, Measured
+from ..measurements.goodness_of_fit import compare_hours, make_model, with_measured_demand
 from ..program.programs import program_path
 from ..reports.outputs import prepare_folder
 from ..reports.pictures import draw_points, stack_drawings
 from ..roads.calibrated import CHANCE_ERROR, MOST_ERROR, Alternative, Calibrated, Leaving
 from ..roads.demand import BeyondCapacity
-from ..roads.freeway import Figures, make_road, measure_chances
 from ..roads.freeway_files import write_road
-from ..roads.units import count_things
+from ..roads.road_in_cells import Figures, make_road, measure_chances
 from .freeway import FIGURES
 from .measured import (DAYS, Congestion, add_congestion_argument, add_data_arguments, check_congested, format_shares, print_lines, read_days,
                        report_progress)

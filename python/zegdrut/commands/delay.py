@@ -14,7 +14,7 @@
 If the folder of BEFORE has a file units.json, such as recipes/freeway writes, its "metres" and "seconds" are the defaults, "origin" is
 the cell at km 0, and "begin" the step at minute 0. If it has a "clock", the tables of a day have clock times.
 
-Cars that cannot enter wait before their inlet, and their waiting is part of the delay (`zegdrut.roads.waiting` has the rule). If cars wait,
+Cars that cannot enter wait before their inlet, and their waiting is part of the delay (`zegdrut.figures.waiting` has the rule). If cars wait,
 a car's entry is its arrival at the inlet, and the tables have rows for the queues.
 
 For one day it prints three tables, and writes them into the folder: the delay by period of entry (delay.csv), the cars that
@@ -34,21 +34,21 @@ import sys
 from pathlib import Path
 from typing import Sequence
 
+from ..base.errors import Fault, LabError, describe_error
+from ..base.intervals import warn_few_days
+from ..base.units import Units, count_things, format_fixed
 from ..figures.days import ROADS, Days, run_over_days
-from ..figures.delay import Delay, Entered, Group, compare_delays, to_vehicle_hours
-from ..figures.intervals import warn_few_days
-from ..figures.lost import compute_demands, compute_supplies
+from ..figures.delay_by_car import Delay, Entered, Group, compare_delays, to_vehicle_hours
+from ..figures.lost_demand import compute_demands, compute_supplies
 from ..figures.queues import (EditedRoad, Waits, average_lost, compare_ends, explain_end, explain_lost, explain_outflow, find_bound,
                               find_growing, find_inlets, read_roads, run_day)
 from ..figures.simulation import RoadRun
 from ..figures.table import PER_LANE, Figure, FigureRow, choose, list_figures, sort_inlets
 from ..figures.trips import Window, count_admitted_cars
-from ..program.errors import Fault, LabError, describe_error
 from ..program.scripts import read_script, check_same_road
 from ..reports.outputs import format_csv, prepare_folder, with_title, write_lines
 from ..roads.clock import Clock, InvalidTime
 from ..roads.demand import Supply
-from ..roads.units import Units, count_things, format_fixed
 
 PICTURE = Path(__file__).with_name("differences.gnuplot")
 

@@ -14,11 +14,11 @@ import subprocess
 import sys
 from typing import Sequence
 
-from ..program.errors import STATUSES
+from ..base.errors import STATUSES
+from ..base.units import Units
 from ..program.lint import Linter
 from ..program.programs import NoProgram, program_path
-from ..program.refusals import Reasons
-from ..roads.units import Units
+from ..program.refusal_reasons import Reasons
 
 SHOWN = 100
 

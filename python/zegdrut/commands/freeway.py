@@ -34,20 +34,21 @@ import sys
 from pathlib import Path
 from typing import Iterable, Iterator, Sequence, cast
 
+from ..base.errors import LabError, describe_error
+from ..base.units import CELLS_A_KM, HOUR, KMH, METRES, format_distance, to_steps
+from ..base.wire import CountReply, Fields, Reply, RowsReply
 from ..figures.table import PER_LANE
 from ..figures.trips import Trips, Window, count_admitted_cars
-from ..program.errors import LabError, describe_error
+from ..figures.waiting import make_waiting_roads
 from ..program.lab import RoadLab
 from ..program.scripts import Script
-from ..program.wire import CountReply, Fields, Reply, RowsReply
 from ..reports.outputs import prepare_folder, with_title, write_lines
 from ..roads.demand import Inlet, Supply, count_admitted, count_demand, find_rate
-from ..roads.freeway import (Fault, Figures, Road, Section, find_changes, describe_changes, list_free_cells, make_road, make_shapes, measure_chances,
-                             postpone, widen_inlet, widen_inlets, with_lead)
-from ..roads.inflow import run_script
+from ..roads.inflow_chances import run_script
+from ..roads.road_in_cells import (
+    Fault, Figures, Road, Section, find_changes, describe_changes, list_free_cells, make_road, make_shapes,
+    measure_chances, postpone, widen_inlet, widen_inlets, with_lead)
 from ..roads.road_scripts import Chances, make_commands, make_plan, make_script
-from ..roads.units import CELLS_A_KM, HOUR, KMH, METRES, format_distance, to_steps
-from ..roads.waiting import make_waiting_roads
 
 FIGURES = Figures(
     length=3, limit=130,            # km; km/h, rounded to 27, 54, 81, 108 or 135

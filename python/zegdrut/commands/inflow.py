@@ -12,11 +12,11 @@ import argparse
 import sys
 from typing import Sequence, cast
 
-from ..figures.intervals import Estimate, estimate_mean
-from ..program.errors import LabError
-from ..program.wire import CellsReply, CountReply, Fields
-from ..roads.inflow import LIMIT, run_script, find_chance, to_hourly, measure_inflow
-from ..roads.units import ALWAYS, HOUR, to_chance
+from ..base.errors import LabError
+from ..base.intervals import Estimate, estimate_mean
+from ..base.units import ALWAYS, HOUR, to_chance
+from ..base.wire import CellsReply, CountReply, Fields
+from ..roads.inflow_chances import LIMIT, run_script, find_chance, to_hourly, measure_inflow
 
 SLOWINGS = (0, 0.1, 0.25, 0.5)
 WANTED = (250, 500, 750, 1_000, 1_250, 1_500, 1_700)

@@ -23,23 +23,24 @@ import sys
 from pathlib import Path
 from typing import Optional, Sequence, cast
 
-from ..figures.intervals import FEW_DAYS, warn_few_days
-from ..measurements.comparison import (Day, Hour, Model, compare_hours, compare_speeds, list_left_out, make_model, make_interval_records, compute_total_rmse, compute_share_below,
-                          simulate_day, simulate_days, with_measured_demand, with_stations)
+from ..base.errors import Fault, LabError, describe_error
+from ..base.intervals import FEW_DAYS, warn_few_days
+from ..base.progress_bars import Bar
+from ..base.units import HOUR, count_things, format_fixed
+from ..base.wire import Record
 from ..measurements.congestion import (CONGESTED, DEPARTURE, LONG_INTERVAL, Both, JudgedDay, compare_leaving, compare_time_lost, compare_travel_times,
                                        describe_congested_demand, describe_jams, describe_lost, judge, list_segments, simulate_segments)
-from ..measurements.measured import SPACE_MEAN, TIME_MEAN, Measured, put_on_road
+from ..measurements.counts_on_road import SPACE_MEAN, TIME_MEAN, Measured, put_on_road
+from ..measurements.goodness_of_fit import (
+    Day, Hour, Model, compare_hours, compare_speeds, list_left_out, make_model, make_interval_records,
+    compute_total_rmse, compute_share_below, simulate_day, simulate_days, with_measured_demand, with_stations)
 from ..measurements.stations import HEADERS, Counts, correct_counts, read_counts, read_stations
-from ..program.bars import Bar
-from ..program.errors import Fault, LabError, describe_error
-from ..program.wire import Record
 from ..reports.outputs import format_csv, prepare_file, prepare_folder
 from ..reports.pictures import MEASURED, NO_DATA, SIMULATED, Chart, Field, Line, draw_field, draw_scale, stack_drawings, make_speed_field
 from ..roads.calibrated import Leaving, describe_calibration, describe_leaving
 from ..roads.demand import BeyondCapacity
-from ..roads.freeway import Figures, make_road, widen_inlet
 from ..roads.freeway_files import write_road
-from ..roads.units import HOUR, count_things, format_fixed
+from ..roads.road_in_cells import Figures, make_road, widen_inlet
 from .freeway import FIGURES
 
 DAYS = 5

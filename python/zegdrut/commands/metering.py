@@ -30,28 +30,29 @@ from dataclasses import dataclass
 from pathlib import Path
 from typing import Callable, NamedTuple, Sequence
 
-from ..figures.intervals import CHANCE, warn_few_days
+from ..base.argument_checks import is_number
+from ..base.errors import Fault, LabError, describe_error
+from ..base.intervals import CHANCE, warn_few_days
+from ..base.progress_bars import Bar
+from ..base.units import format_fixed, to_steps
 from ..figures.queues import (WAITING_KEYS, Ends, Waits, average_lost, explain_end, explain_lost, explain_outflow, find_inlets,
                               is_shown, list_last_cars, with_bounds, with_lost)
 from ..figures.simulation import RoadRun, read_run, simulate_days
 from ..figures.table import PER_LANE, Figure, FigureRow, choose, compare as compare_figures, list_figures, measure_day
 from ..figures.trips import Window, entry_inlet, entry_step
-from ..program.bars import Bar
-from ..program.checks import is_number
-from ..program.errors import Fault, LabError, describe_error
+from ..figures.waiting import Queues, ask_edits, find_arrivals, make_waiting_roads
 from ..program.lab import RoadLab
 from ..reports.outputs import format_window, make_title, prepare_folder, write_csv
 from ..roads.clock import InvalidTime
 from ..roads.control import PERIOD, RampMeter, run_control
 from ..roads.demand import Admission, AdmissionByFlow, BeyondCapacity, count_demand, measure_by_flow, find_rate
-from ..roads.freeway import Figures, Road, list_free_cells, make_all_roads, measure_chances, widen_inlet, with_lead
 from ..roads.freeway_files import check_names
+from ..roads.road_in_cells import (
+    Figures, Road, list_free_cells, make_all_roads, measure_chances, widen_inlet, with_lead)
 from ..roads.road_scripts import Chances, make_plan, make_script
-from ..roads.units import format_fixed, to_steps
-from ..roads.waiting import Queues, ask_edits, find_arrivals, make_waiting_roads
 from .freeway import FIGURES, report_progress
-from .sweep import add_dask_options, open_executor
 from .measured import check_days
+from .sweep import add_dask_options, open_executor
 
 DAYS = 20
 

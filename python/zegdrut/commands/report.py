@@ -21,31 +21,33 @@ from html import escape
 from pathlib import Path
 from typing import Any, Sequence
 
-from ..figures.intervals import warn_few_days
+from ..base.errors import Fault, LabError, describe_error
+from ..base.intervals import warn_few_days
+from ..base.progress_bars import Bar
+from ..base.units import HOUR, KMH, count_things, format_distance, to_steps
+from ..base.wire import Record
 from ..figures.queues import Waits, explain_outflow
 from ..figures.simulation import RoadRun
 from ..figures.table import PER_LANE, FigureRow
 from ..figures.trips import Window
-from ..measurements.comparison import Model, compare_hours, list_left_out, make_model
+from ..figures.waiting import make_waiting_roads
 from ..measurements.congestion import list_segments, simulate_segments
-from ..measurements.measured import TIME_MEAN, Measured
-from ..program.bars import Bar
-from ..program.errors import Fault, LabError, describe_error
-from ..program.wire import Record
+from ..measurements.counts_on_road import TIME_MEAN, Measured
+from ..measurements.goodness_of_fit import Model, compare_hours, list_left_out, make_model
 from ..reports.outputs import format_window, make_title as make_csv_title, prepare_file
 from ..reports.pictures import INLETS, Chart, Line
-from ..reports.report import (MOST_SIDES, PERIOD, RangeRow, Side, make_flow_series, make_range_records, make_ranges, make_records, make_speed_series,
-                              make_tables, run_sides)
 from ..reports.report_page import Contents, describe_approach, describe_capacities, draw_demands, format_page, make_list_html
+from ..reports.report_tables import (
+    MOST_SIDES, PERIOD, RangeRow, Side, make_flow_series, make_range_records, make_ranges, make_records,
+    make_speed_series, make_tables, run_sides)
 from ..roads.calibrated import Alternative, compare_delays, describe_calibration, describe_queues
 from ..roads.capacity import LIMIT as WORKS_LIMIT
 from ..roads.clock import Clock
 from ..roads.demand import BeyondCapacity, count_demand, find_rate
-from ..roads.freeway import Figures, Road, make_all_roads, measure_chances, to_rates, warm_up_minutes, widen_inlets, with_warm_up
 from ..roads.freeway_files import Demand
+from ..roads.road_in_cells import (
+    Figures, Road, make_all_roads, measure_chances, to_rates, warm_up_minutes, widen_inlets, with_warm_up)
 from ..roads.road_scripts import make_script
-from ..roads.units import HOUR, KMH, count_things, format_distance, to_steps
-from ..roads.waiting import make_waiting_roads
 from .freeway import FIGURES, report_progress
 from .measured import (Congestion, add_congestion_argument, add_count_options, add_demand_argument, check_congested, check_days, choose_factor,
                        format_hours, format_shares, format_speeds, make_comparison_charts, make_title, read_data)

@@ -39,11 +39,11 @@ from pathlib import Path
 from types import FrameType
 from typing import Iterator, Sequence, cast
 
-from ..program.bars import Bar
-from ..program.errors import Fault, LabError, describe_error
+from ..base.errors import Fault, LabError, describe_error
+from ..base.progress_bars import Bar
 from ..reports.outputs import prepare_file
-from ..sweeps.marks import OtherMark
 from ..sweeps.about import About, Named, explain_change, read_about
+from ..sweeps.marks import OtherMark
 from ..sweeps.results import Row, format_row, replace_file, read_rows, parse_cell, format_cell
 from ..sweeps.runs import Flows, Measure, Model, Run, list_points, make_grid, runs
 from ..sweeps.sweeps import Progress, Sweep, find_mark, sweep

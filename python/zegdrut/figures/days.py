@@ -1,7 +1,7 @@
 """Measure what a change costs over many days. Days differ by chance; both roads of a day have the same drivers.
 
-    from zegdrut.days import run_over_days
-    from zegdrut.scripts import read_script
+    from zegdrut.figures.days import run_over_days
+    from zegdrut.program.scripts import read_script
 
     before, after = read_script("before.jsonl"), read_script("after.jsonl")
     for row in run_over_days(before, after, days=20).rows():
@@ -16,12 +16,12 @@ from concurrent.futures import Executor
 from itertools import compress
 from typing import Callable, Mapping, NamedTuple, Sequence
 
-from ..program.bars import Bar
-from ..program.errors import Fault
+from ..base.errors import Fault
+from ..base.progress_bars import Bar
+from ..base.units import Units
+from ..base.wire import PlanLine
 from ..program.scripts import Script, check_same_road
-from ..program.wire import PlanLine
 from ..roads.demand import Drivers
-from ..roads.units import Units
 from .queues import (EditedRoad, Ends, Waits, average_ends, average_lost, compare_ends, explain_end, explain_lost, explain_outflow, find_inlets,
                      is_shown, read_roads, run_day as run_with_queue, with_bounds, with_lost)
 from .simulation import RoadRun, simulate_days

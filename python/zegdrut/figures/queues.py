@@ -4,7 +4,7 @@
     run = run_day(road.script, road.free, Window(0, road.last))
     run.list_waiting(0), run.by_arrival                           # the cars that wait before inlet 0; the cars by their arrivals
 
-The rule is in `zegdrut.roads.waiting`.
+The rule is in `zegdrut.figures.waiting`.
 """
 from __future__ import annotations
 
@@ -12,18 +12,18 @@ import dataclasses
 import math
 from typing import Mapping, NamedTuple, Sequence
 
+from ..base.units import HOUR, Units, count_things
+from ..base.wire import Fields
 from ..program.lab import RoadLab
 from ..program.records import Edit
 from ..program.scripts import Script, choose_replica, open_edited
-from ..program.wire import Fields
 from ..roads.capacity import NEAR_OUTFLOW, measure_outflow
 from ..roads.demand import Drivers, Rates
-from ..roads.units import HOUR, Units, count_things
-from ..roads.waiting import ask_edits, find_arrivals, find_main, let_wait, name_by_arrival
-from .lost import find_drivers
+from .lost_demand import find_drivers
 from .simulation import RoadRun, read_run
 from .table import FREEWAY, Bound, Figure, FigureRow, count_lost, pair_roads
 from .trips import Window, entry_inlet, entry_step
+from .waiting import ask_edits, find_arrivals, find_main, let_wait, name_by_arrival
 
 WAITING_KEYS = ("wait", "wait queue", "wait end")
 """The figures of cars that wait before the road, which are shown if cars wait."""

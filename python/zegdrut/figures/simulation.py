@@ -14,11 +14,11 @@ from concurrent.futures import Executor
 from dataclasses import dataclass, field
 from typing import Callable, Generator, Mapping, Sequence, TypeVar, cast
 
-from ..program.errors import Fault, LabError
+from ..base.errors import Fault, LabError
+from ..base.units import HOUR
 from ..program.lab import RoadLab
 from ..program.programs import NoProgram
 from ..roads.demand import Rates
-from ..roads.units import HOUR
 from ..sweeps.engine import run_jobs
 from .trips import DetectorCount, Trips, Window, count_seconds_on
 

@@ -14,12 +14,12 @@ from __future__ import annotations
 from dataclasses import dataclass, replace
 from typing import Callable, Literal, NamedTuple, Sequence, TypeVar
 
-from ..program.wire import PlanLine
+from ..base.intervals import Estimate, count_opposite, estimate_mean, estimate_unpaired, may_be_chance
+from ..base.units import METRES, Units
+from ..base.wire import PlanLine
 from ..roads.demand import count_demand
-from ..roads.units import METRES, Units
-from .delay import compare_delays
-from .intervals import Estimate, count_opposite, estimate_mean, estimate_unpaired, may_be_chance
-from .lost import LEAST_AT_RAMP, Queue, measure_queue
+from .delay_by_car import compare_delays
+from .lost_demand import LEAST_AT_RAMP, Queue, measure_queue
 from .simulation import RoadRun
 from .trips import compute_delay, compute_delay_at, compute_travel_time, count_admitted_cars, count_approach_steps, count_vehicle_steps
 

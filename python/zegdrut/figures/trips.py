@@ -26,11 +26,11 @@ from collections import Counter
 from dataclasses import dataclass, field
 from typing import Iterable, Mapping, NamedTuple, Sequence
 
+from ..base.units import HOUR, KMH
+from ..base.wire import PlanLine
 from ..program.lab import RoadLab
 from ..program.records import Edit
-from ..program.rows import FASTEST, count_cars
-from ..program.wire import PlanLine
-from ..roads.units import HOUR, KMH
+from ..program.road_rows import FASTEST, count_cars
 
 INLETS = 16
 """A car's number is its step of entry times this, plus its inlet."""

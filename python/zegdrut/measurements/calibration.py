@@ -47,16 +47,16 @@ from concurrent.futures import Executor
 from dataclasses import dataclass
 from typing import Callable, NamedTuple, Sequence, cast
 
+from ..base.errors import Fault
+from ..base.units import HOUR, KMH, to_limit
 from ..figures.simulation import attempt
-from ..program.errors import Fault
 from ..roads import demand
 from ..roads.demand import QUICK, BeyondCapacity, count_demand
-from ..roads.freeway import ENTRY, Figures
-from ..roads.units import HOUR, KMH, to_limit
+from ..roads.road_in_cells import ENTRY, Figures
 from ..sweeps.engine import run_jobs
-from .comparison import Day, Model, make_model, simulate_day, with_measured_demand, with_stations
 from .congestion import find_free_speed
-from .measured import Measured
+from .counts_on_road import Measured
+from .goodness_of_fit import Day, Model, make_model, simulate_day, with_measured_demand, with_stations
 
 NAMES = ("slowing", "start", "factor")
 MeasuredDay = tuple[Figures, Measured]

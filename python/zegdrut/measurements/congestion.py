@@ -38,15 +38,16 @@ from dataclasses import dataclass
 from statistics import fmean
 from typing import Callable, NamedTuple, Sequence
 
-from ..figures.intervals import average_known
+from ..base.intervals import average_known
+from ..base.units import CELLS_A_KM, HOUR, KMH, count_things
 from ..figures.simulation import simulate_days
-from ..program.rows import Sums
+from ..program.road_rows import Sums
 from ..roads.calibrated import Leaving
 from ..roads.clock import Clock
 from ..roads.demand import Supply, count_demand
-from ..roads.units import CELLS_A_KM, HOUR, KMH, count_things
-from .comparison import Day, Model, Passed, compute_space_mean, compute_speed, estimate_days, simulate_day, sum_intervals, sum_near
-from .measured import SPACE_MEAN, Measured, Series
+from .counts_on_road import SPACE_MEAN, Measured, Series
+from .goodness_of_fit import (
+    Day, Model, Passed, compute_space_mean, compute_speed, estimate_days, simulate_day, sum_intervals, sum_near)
 
 CONGESTED = 0.6
 """Traffic is congested below this share of the free speed."""

@@ -24,8 +24,8 @@ from pathlib import Path
 from types import MappingProxyType
 from typing import Container, Iterable, Mapping, NamedTuple, Sequence
 
-from ..program.errors import Fault
-from ..roads.units import count_things
+from ..base.errors import Fault
+from ..base.units import count_things
 
 MILE = 1.609344
 """Kilometres."""

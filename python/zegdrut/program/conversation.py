@@ -24,10 +24,10 @@ import time
 from pathlib import Path
 from typing import IO, Iterable, NamedTuple
 
-from .errors import Ended, LabBroken, LabCancelled, LabTimeout, Refused
+from ..base.errors import Ended, LabBroken, LabCancelled, LabTimeout, Refused
+from ..base.wire import Fields, Reply
 from .programs import NoProgram
-from .refusals import Reasons
-from .wire import Fields, Reply
+from .refusal_reasons import Reasons
 
 PIECE = 1 << 20
 """The number of bytes to read at once."""

@@ -8,19 +8,20 @@ from pathlib import Path
 from types import TracebackType
 from typing import TYPE_CHECKING, Callable, Iterable, cast
 
-from .bars import Bar
-from .checks import encode_line, check_text, check_object, check_whole
+from ..base.argument_checks import encode_line, check_text, check_object, check_whole
+from ..base.progress_bars import Bar
+from ..base.wire import (
+    CarsReply, CellsReply, CountReply, CrowdReply, EditsReply, Fields, HeadsReply, HorizonReply, PlanLine, Reply,
+    RowsReply, SizeReply, StampReply, TouchedReply)
 from .conversation import Conversation, Deadline, Request
 from .grammar import LAST_HORIZON, MOST_ROWS
 from .plan import Plan
 from .programs import program_path, seconds_left
 from .records import Car, Count, Crowd, Edit, Head, Object, Stamp
-from .rows import Rows, Sums, Traffic, check_numpy
-from .wire import (CarsReply, CellsReply, CountReply, CrowdReply, EditsReply, Fields, HeadsReply, HorizonReply, PlanLine, Reply,
-                   RowsReply, SizeReply, StampReply, TouchedReply)
+from .road_rows import Rows, Sums, Traffic, check_numpy
 
 if TYPE_CHECKING:
-    from .rows import Bytes
+    from .road_rows import Bytes
 
 FORM = 2
 BYTES_AT_ONCE = 1 << 21

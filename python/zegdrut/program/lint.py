@@ -10,10 +10,10 @@ from __future__ import annotations
 import json
 from typing import Iterator, cast
 
-from ..roads.units import Units
+from ..base.units import Units
+from ..base.wire import CommandFields, Fields, PlanLine, ReplyFields
 from .grammar import CHANCE, KINDS, shown, value_of
-from .refusals import join_faults, list_edits
-from .wire import CommandFields, Fields, PlanLine, ReplyFields
+from .refusal_reasons import join_faults, list_edits
 
 HOUR = 3_600
 MOST_CARS = 3_600

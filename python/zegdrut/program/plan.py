@@ -4,8 +4,8 @@ from __future__ import annotations
 from dataclasses import dataclass
 from typing import Sequence
 
-from .checks import check_list, check_pair, check_text, check_whole
-from .wire import PlanLine
+from ..base.argument_checks import check_list, check_pair, check_text, check_whole
+from ..base.wire import PlanLine
 
 ALWAYS = 65_536
 """The chance of an event that always happens. Chances are whole numbers of 1/65,536."""

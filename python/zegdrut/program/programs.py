@@ -21,7 +21,7 @@ from dataclasses import asdict, dataclass
 from pathlib import Path
 from typing import Iterator
 
-from .errors import LabError
+from ..base.errors import LabError
 
 ROOT = Path(__file__).resolve().parents[3]
 CRATES = ROOT / "crates"

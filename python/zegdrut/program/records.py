@@ -3,8 +3,8 @@ from __future__ import annotations
 
 from typing import Iterable, Literal, NamedTuple, cast
 
-from .checks import check_object, check_whole
-from .wire import WrittenEdit, WrittenHead
+from ..base.argument_checks import check_object, check_whole
+from ..base.wire import WrittenEdit, WrittenHead
 
 Kind = Literal["limit", "slow", "block", "inflow", "watch", "start"]
 """What an edit sets."""

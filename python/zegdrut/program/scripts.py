@@ -5,9 +5,9 @@ import json
 from pathlib import Path
 from typing import NamedTuple
 
-from .errors import Fault as Fault, Refused
+from ..base.errors import Fault as Fault, Refused
+from ..base.wire import Fields, PlanLine
 from .lab import RoadLab
-from .wire import Fields, PlanLine
 
 QUERIES = {"cells", "cars", "count", "diagram", "scenario"}
 

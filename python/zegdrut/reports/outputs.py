@@ -11,7 +11,7 @@ import tempfile
 from pathlib import Path
 from typing import Sequence
 
-from ..program.errors import Fault
+from ..base.errors import Fault
 from ..roads.clock import Clock
 
 

@@ -10,16 +10,16 @@ from html import escape
 from pathlib import Path
 from typing import Sequence
 
-from ..figures.intervals import CHANCE, FEW_DAYS, warn_few_days
+from ..base.intervals import CHANCE, FEW_DAYS, warn_few_days
+from ..base.units import Units, count_things, format_distance, format_fixed, to_km
 from ..figures.simulation import RoadRun
 from ..figures.table import PER_LANE, Figure, FigureRow, list_means
 from ..figures.trips import Window
 from ..program.programs import program_path, read_record, sum_file
 from ..roads.clock import Clock
 from ..roads.demand import Rates
-from ..roads.units import Units, count_things, format_distance, format_fixed, to_km
 from .pictures import AFTER, INLETS, ROADS, Chart, Line, draw_field, draw_scale, make_speed_field
-from .report import PERIOD, Range, RangeRow, Side, make_flow_series, make_speed_series
+from .report_tables import PERIOD, Range, RangeRow, Side, make_flow_series, make_speed_series
 
 CELLS_A_PIECE, STEPS_A_PIECE = 7, 30
 NO_SPEED_BANDS = ('<p class="note">The charts of speeds have no intervals: on some days no car may pass in a period, and such a day has no '

@@ -10,8 +10,8 @@ from __future__ import annotations
 import math
 from typing import NamedTuple, Sequence, cast
 
-from ..program.checks import is_number
-from ..program.wire import Json
+from ..base.argument_checks import is_number
+from ..base.wire import Json
 
 CHANCE_ERROR, MOST_ERROR = 2, 5.0
 """The error of a calibration that chance alone makes, about, and the error above which the road does not fit its counts."""

@@ -15,13 +15,13 @@ import functools
 from concurrent.futures import ThreadPoolExecutor
 from typing import NamedTuple, Sequence
 
-from ..figures.intervals import Estimate, estimate_mean
-from ..program.errors import Fault
+from ..base.errors import Fault
+from ..base.intervals import Estimate, estimate_mean
+from ..base.units import ALWAYS, HOUR, KMH, format_km, to_limit
 from ..program.lab import RoadLab
 from ..program.plan import Plan
 from ..program.records import Kind
 from .demand import Drivers, Monotone, thread_count
-from .units import ALWAYS, HOUR, KMH, format_km, to_limit
 
 LIMIT = 54.0
 """The limit of works in km/h if none is given."""

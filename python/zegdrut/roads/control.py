@@ -17,10 +17,10 @@ import math
 from dataclasses import dataclass
 from typing import Callable, Iterable, Sequence
 
+from ..base.units import HOUR, KMH
 from ..program.lab import RoadLab
 from ..program.records import Kind, Object
 from .demand import Admission, Rates, count_demand, find_rate
-from .units import HOUR, KMH
 
 PERIOD = 60
 """Steps from one decision to the next."""

@@ -37,9 +37,9 @@ from concurrent.futures import ThreadPoolExecutor
 from dataclasses import dataclass
 from typing import Callable, Iterable, NamedTuple, Sequence
 
+from ..base.units import ALWAYS, HOUR, KMH
 from ..program.lab import RoadLab
 from ..program.plan import Plan
-from .units import ALWAYS, HOUR, KMH
 
 WARM_UP = 1_000
 """The steps before cars are counted."""

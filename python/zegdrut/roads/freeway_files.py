@@ -9,12 +9,12 @@ from dataclasses import dataclass, field
 from pathlib import Path
 from typing import NamedTuple, Sequence, TypeVar, Union, cast
 
-from ..program.checks import is_number
-from ..program.errors import Fault
-from ..program.wire import Json
+from ..base.argument_checks import is_number
+from ..base.errors import Fault
+from ..base.units import to_steps
+from ..base.wire import Json
 from .calibrated import Calibrated, read_calibration, write_calibration
 from .clock import DAY, InvalidTime, Clock
-from .units import to_steps
 
 
 class Section(NamedTuple):

@@ -3,9 +3,9 @@ from __future__ import annotations
 
 from typing import Iterable
 
+from ..base.wire import Fields, PlanLine
 from ..program.scripts import Script
-from ..program.wire import Fields, PlanLine
-from .freeway import Chances as Chances, Change, Road
+from .road_in_cells import Chances as Chances, Change, Road
 
 
 def make_plan(road: Road, chances: Chances, seed: int) -> PlanLine:

@@ -17,9 +17,9 @@ from datetime import datetime, timezone
 from pathlib import Path
 from typing import Dict, List, Mapping, Sequence, Union
 
-from ..program.errors import Fault
+from ..base.errors import Fault
+from ..base.wire import Json, PlanLine
 from ..program.programs import find_program, read_record
-from ..program.wire import Json, PlanLine
 from .marks import Mark
 from .results import Column, Value, make_identifier, replace_file
 from .runs import Run, list_points, list_run_points

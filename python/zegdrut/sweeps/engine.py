@@ -25,7 +25,7 @@ from concurrent.futures import BrokenExecutor, CancelledError, Executor, Future,
 from pathlib import Path
 from typing import Callable, Generator, Iterator, Sequence, TypeVar
 
-from ..program.errors import Fault
+from ..base.errors import Fault
 from ..program.programs import NoProgram, describe_program, find_program, read_copy
 from .marks import PACKAGE, Reach, Unknown, is_installed_module, module_of, sum_package
 from .pool import Outcome, run_in_parallel

@@ -31,7 +31,7 @@ from dataclasses import dataclass
 from pathlib import Path, PurePath
 from typing import Callable, Iterable, Iterator, Mapping
 
-from ..program.errors import Fault
+from ..base.errors import Fault
 from ..program.programs import describe_program
 
 PACKAGE = Path(__file__).resolve().parents[1]

@@ -15,7 +15,7 @@ import os
 from pathlib import Path
 from typing import Callable, Dict, Iterable, List, Mapping, NamedTuple, Sequence, Union
 
-from ..program.errors import Fault
+from ..base.errors import Fault
 
 PAGE = 4_096
 """The size of a memory page in bytes. What is written within one page appears to a reader at once."""

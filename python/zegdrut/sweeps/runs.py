@@ -13,7 +13,7 @@ from dataclasses import dataclass
 from pathlib import Path
 from typing import Any, Callable, Iterable, Mapping, NamedTuple, Sequence, Union, cast
 
-from ..program.errors import Fault
+from ..base.errors import Fault
 from ..program.lab import RoadLab
 from ..program.plan import Plan
 from ..program.programs import using_program

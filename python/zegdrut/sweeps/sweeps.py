@@ -20,18 +20,18 @@ from dataclasses import dataclass
 from pathlib import Path
 from typing import TYPE_CHECKING, Callable, Iterable, Iterator, Mapping, NamedTuple, Sequence, cast
 
-from ..figures.intervals import estimate_mean
-from ..program.errors import Fault
+from ..base.errors import Fault
+from ..base.intervals import estimate_mean
+from ..base.wire import PlanLine
 from ..program.plan import Plan
 from ..program.programs import program_path
-from ..program.wire import PlanLine
 from .about import About, Named, beside, describe_sweep, explain_change, find_kinds, find_name, now, read_about
+from .data_frames import make_dataset, make_frame, write_netcdf
 from .engine import run_by_executor
 from .marks import Mark, OtherMark, Unknown, make_mark
 from .pool import Outcome, run_in_parallel
 from .results import Column, Results, Row, Series, Value, format_cell, format_row, parse_cell, parse_table, read_rows, replace_file
 from .runs import Flows, Measure, Model, Points, Run, join_runs, list_run_points, run_job, run_one, runs
-from .tables import make_dataset, make_frame, write_netcdf
 
 if TYPE_CHECKING:
     import pandas

@@ -1,7 +1,7 @@
 """Measure what a change costs: the delay of cars between two runs of one plan.
 
-    from zegdrut.delay import compare_delays, to_vehicle_hours
-    from zegdrut.trips import Trips
+    from zegdrut.figures.delay_by_car import compare_delays, to_vehicle_hours
+    from zegdrut.figures.trips import Trips
 
     before, after = Trips(lab.plan), Trips(lab.plan)
     before.follow(lab, "A", 3_600)
@@ -20,7 +20,7 @@ from __future__ import annotations
 from dataclasses import dataclass
 from typing import Callable, Iterable, NamedTuple
 
-from ..roads.units import HOUR
+from ..base.units import HOUR
 from .trips import Trips, entry_inlet, entry_step
 
 

@@ -12,10 +12,10 @@ from collections import Counter
 from dataclasses import dataclass, field, replace
 from typing import Iterable, NamedTuple, Sequence
 
-from ..program.errors import Fault
+from ..base.errors import Fault
+from ..base.units import HOUR, count_things
 from ..roads.clock import Clock
 from ..roads.demand import Rates
-from ..roads.units import HOUR, count_things
 from .stations import LEAST_FACTOR, MOST_LISTED, Counts, Row, Station, note_lines
 
 SUSPICIOUS = 10

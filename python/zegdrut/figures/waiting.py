@@ -15,15 +15,15 @@ from dataclasses import dataclass, field
 from itertools import accumulate
 from typing import Mapping, Sequence
 
-from ..figures.lost import LEAST_AT_RAMP
-from ..figures.trips import INLETS, Trips, entry_inlet, entry_step
+from ..base.units import ALWAYS, to_cells, to_km
+from ..base.wire import Fields, PlanLine
 from ..program.lab import RoadLab
 from ..program.records import Edit, Object
-from ..program.rows import FASTEST
+from ..program.road_rows import FASTEST
 from ..program.scripts import Script
-from ..program.wire import Fields, PlanLine
-from .freeway import MOST_ZONES, Figures, Road, choose_width, has_room, make_all_roads, sum_misfit
-from .units import ALWAYS, to_cells, to_km
+from ..roads.road_in_cells import MOST_ZONES, Figures, Road, choose_width, has_room, make_all_roads, sum_misfit
+from .lost_demand import LEAST_AT_RAMP
+from .trips import INLETS, Trips, entry_inlet, entry_step
 
 PIECE = 600
 """Steps that are read at a time."""

@@ -16,18 +16,19 @@ import math
 from dataclasses import dataclass
 from typing import Any, Callable, NamedTuple, Sequence
 
-from ..figures.intervals import Estimate, average_known, estimate_mean
+from ..base.errors import Fault
+from ..base.intervals import Estimate, average_known, estimate_mean
+from ..base.units import HOUR, KMH, count_things
+from ..base.wire import Record
 from ..figures.simulation import read_counts, simulate_days as run_days, split_window
 from ..figures.trips import Window
-from ..program.errors import Fault
 from ..program.lab import RoadLab
-from ..program.rows import Sums, add_up
-from ..program.wire import Record
+from ..program.road_rows import Sums, add_up
 from ..roads.demand import Effort, Rates
-from ..roads.freeway import Figures, Road, convert_road_demands, make_road, to_rates, warm_up_minutes, widen_inlet, with_warm_up
+from ..roads.road_in_cells import (
+    Figures, Road, convert_road_demands, make_road, to_rates, warm_up_minutes, widen_inlet, with_warm_up)
 from ..roads.road_scripts import Chances, make_commands, make_plan, make_base_edits
-from ..roads.units import HOUR, KMH, count_things
-from .measured import SPACE_MEAN, Measured, Series
+from .counts_on_road import SPACE_MEAN, Measured, Series
 
 MOST_AT_INLET = 1_780.0
 """The largest demand of an inlet in cars per hour and lane. The cars above it enter in the following minutes."""

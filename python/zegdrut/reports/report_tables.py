@@ -11,16 +11,16 @@ from concurrent.futures import Executor
 from dataclasses import dataclass
 from typing import Callable, NamedTuple, Sequence
 
-from ..figures.intervals import average_known
+from ..base.intervals import average_known
+from ..base.units import Units
+from ..base.wire import Record
 from ..figures.queues import Ends, Waits, average_ends, average_lost, compare_ends, find_inlets, is_shown, run_day, with_bounds, with_lost
 from ..figures.simulation import RoadRun, simulate_days, split_window
 from ..figures.table import (FREEWAY, Bound, Figure, FigureRow, average_days, compare_roads, list_known, list_means, list_shown, measure_roads,
                              pair_roads)
 from ..figures.trips import Window
 from ..program.scripts import Script
-from ..program.wire import Record
 from ..roads.demand import Rates
-from ..roads.units import Units
 
 MOST_SIDES = 4
 """The most roads of a report."""

@@ -5,7 +5,7 @@ import math
 from pathlib import Path
 from typing import TYPE_CHECKING, Mapping, Sequence
 
-from ..program.errors import Fault
+from ..base.errors import Fault
 from .about import About
 from .results import Column, Row, Series, Value, make_identifier
 

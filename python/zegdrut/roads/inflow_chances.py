@@ -5,13 +5,13 @@ import json
 import subprocess
 from typing import Iterable, Sequence
 
-from ..figures.intervals import Estimate, estimate_mean
-from ..program.errors import Fault
+from ..base.errors import Fault
+from ..base.intervals import Estimate, estimate_mean
+from ..base.units import ALWAYS, HOUR
+from ..base.wire import Fields, Reply
 from ..program.programs import NoProgram, program_path
-from ..program.refusals import Reasons
-from ..program.wire import Fields, Reply
+from ..program.refusal_reasons import Reasons
 from .demand import BeyondCapacity, Drivers, Effort, Inlet, count_admitted, measure_admission
-from .units import ALWAYS, HOUR
 
 LIMIT = 5
 WARM = 1_000

@@ -14,10 +14,10 @@ from __future__ import annotations
 from itertools import accumulate
 from typing import NamedTuple, Sequence, TypeVar
 
+from ..base.units import HOUR
+from ..base.wire import PlanLine
 from ..program.records import Edit
-from ..program.wire import PlanLine
 from ..roads.demand import Drivers, Effort, Inlet, Rates, Supply, count_demand, simulate_admitted
-from ..roads.units import HOUR
 from .trips import Trips, Window, entry_inlet, entry_step
 
 AskedRates = Sequence[tuple[int, "float | None"]]

@@ -6,12 +6,13 @@ import math
 from dataclasses import dataclass, field
 from typing import Callable, Iterator, Optional, Sequence, TypeVar, Union
 
-from ..program.errors import Fault as Fault
+from ..base.errors import Fault as Fault
+from ..base.units import (
+    ALWAYS, CELLS_A_KM, KMH, METRES, Units, format_distance, to_cells, to_km, to_limit, to_chance, to_steps)
 from .capacity import LIMIT, describe_capacity, find_capacity
 from .clock import Clock
 from .demand import BeyondCapacity, Drivers, Effort, Rates, convert_demands, measure_admission
 from .freeway_files import Demand, Figures as Figures, Section as Section, Stalled as Stalled
-from .units import ALWAYS, CELLS_A_KM, KMH, METRES, Units, format_distance, to_cells, to_km, to_limit, to_chance, to_steps
 
 CELLS = range(8, 8_193)
 """The allowed numbers of cells of a road."""

@@ -8,10 +8,10 @@ from __future__ import annotations
 
 from typing import Callable, Sequence, cast
 
-from ..roads.units import Units
+from ..base.units import Units
+from ..base.wire import AnyEdit, CommandFields, Fields, PlanLine, ReplyFields
 from .grammar import (CHANCE, COMMANDS, GREATEST_COUNT, KINDS, LAST_HORIZON, LAST_STEP, LONGEST_LINE, MOST_ROWS, PLAN, Faults,
                       NotWhole, find_closest, format_names, check_fields, name, shown, value_of)
-from .wire import AnyEdit, CommandFields, Fields, PlanLine, ReplyFields
 
 MOST_SHOWN = 3
 """The number of faults of a line that are shown."""
