@@ -2,6 +2,7 @@
 from __future__ import annotations
 
 import json
+import random
 import statistics
 import tempfile
 import unittest
@@ -9,7 +10,7 @@ from pathlib import Path
 
 from zegdrut import Fault, RoadLab
 from zegdrut.commands.freeway import FIGURES
-from zegdrut.roads.capacity import describe_capacity, find_capacity
+from zegdrut.roads.capacity import describe_capacity, find_capacity, measure_outflow
 from zegdrut.roads.demand import Drivers
 from zegdrut.roads.road_in_cells import Figures, make_road, make_shapes
 from zegdrut.roads.road_scripts import make_script
@@ -43,6 +44,31 @@ def count_flows(figures: Figures, first: int, last: int) -> list[float]:
     return flows
 
 
+def count_outflow(drivers: Drivers, seed: int, cars: int = 480, last: int = 800) -> float:
+    """Return the cars per hour that pass a place 100 cells in front of a queue of standing cars, in a loop of its own over the rules of the model."""
+    chance = random.Random(seed)
+    slowing, start = drivers.slowing / 65_536, (drivers.start or 0) / 65_536
+    places, speeds, passed = [-car for car in range(cars)], [0] * cars, 0
+    for step in range(last):
+        gaps = [10_000, *(ahead - place - 1 for ahead, place in zip(places, places[1:]))]
+        wanted = [min(speed + 1, drivers.limit, gap) for speed, gap in zip(speeds, gaps)]
+        slowed = [chance.random() < (start if speed == 0 else slowing) for speed in speeds]
+        speeds = [max(speed - slow, 0) for speed, slow in zip(wanted, slowed)]
+        moved = [place + speed for place, speed in zip(places, speeds)]
+        passed += sum(before < 100 <= after for before, after in zip(places, moved)) if step >= 300 else 0
+        places = moved
+    return passed * 3_600 / (last - 300)
+
+
+class Outflow(unittest.TestCase):
+    def test_drivers_that_are_slow_to_start(self) -> None:
+        """The flow out of a queue of standing cars equals that of a loop of its own. Without slow-to-start these queues would let out far more."""
+        for drivers in (Drivers(4, 9_830, 36_000), Drivers(5, 6_554, 24_000)):
+            wanted = statistics.mean(count_outflow(drivers, seed) for seed in (1, 2))
+            self.assertLess(abs(measure_outflow(drivers).mean - wanted), 0.08 * wanted, (drivers, wanted))
+            self.assertGreater(measure_outflow(drivers._replace(start=None)).mean, 1.15 * wanted)
+
+
 class Capacity(unittest.TestCase):
     def test_the_flow_behind_works(self) -> None:
         """Works that leave 600, 900 or 1,200 cars an hour: as many cars pass a detector behind them, within the interval of six seeds. Before
@@ -55,6 +81,12 @@ class Capacity(unittest.TestCase):
             self.assertLess(abs(statistics.mean(flows) - cars), half + 0.003 * cars, (cars, flows))
             self.assertLess(half, 25)
             self.assertGreater(statistics.mean(count_flows(figures, 300, 600)), 1_350)
+
+    def test_the_flow_behind_long_works(self) -> None:
+        """Works of 2.4 km hinder cars more than works of half a km with the same drivers do: behind them 800 cars an hour pass, too."""
+        section = {"first": 0.9, "last": 3.3, "begin": 10, "end": 60, "capacity": 800, "limit": 81}
+        flows = count_flows(read_figures(length=4.2, detectors=[3.9], sections=[section], zone=0.15, minutes=60), 1_500, 3_600)
+        self.assertLess(abs(statistics.mean(flows) - 800), 22, flows)
 
     def test_what_it_becomes(self) -> None:
         """A capacity is a limit (54 km/h by default), a slowing chance, and the same chance for standing cars, in the zones of its section. The

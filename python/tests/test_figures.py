@@ -11,7 +11,8 @@ from zegdrut import Car, Fault, Plan, RoadLab
 from zegdrut.figures import (FREEWAY, Figure, Mean, Of, RoadRun, Value, choose, compare, compare_roads, list_figures, list_means, measure_day,
                              measure_roads, read_run, simulate_days)
 from zegdrut.figures import days as figures_of_days
-from zegdrut.figures.queues import Ends, Waits, with_lost
+from zegdrut.figures.queues import Ends, Waits, average_lost, with_lost
+from zegdrut.figures.table import SHOWN
 from zegdrut.figures.trips import Window
 from zegdrut.roads.demand import Drivers
 
@@ -25,8 +26,9 @@ Edits = list[tuple[str, int, int, int]]
 class Watched:
     """A run that was watched step by step: the cars of each row, and when each car entered, passed each detector and left."""
 
-    def __init__(self, lab: RoadLab, first: int, edits: Edits, demands: list[list[tuple[int, float]]], waiting: list[list[int]], origin: int) -> None:
-        self.first, self.demands, self.waiting, self.origin = first, demands, waiting, origin
+    def __init__(self, lab: RoadLab, first: int, edits: Edits, demands: list[list[tuple[int, float]]], waiting: list[list[int]], origin: int,
+                 step: float) -> None:
+        self.first, self.demands, self.waiting, self.origin, self.step = first, demands, waiting, origin, step
         self.rows: list[list[Car]] = [lab.cars("A", step) for step in range(LAST + 1)]
         self.speeds: list[list[tuple[int, int]]] = [[] for _ in DETECTORS]
         self.arrivals: dict[tuple[int | None, int], int] = {}
@@ -63,11 +65,14 @@ class Watched:
             found.append(waiting)
         return found[self.first:]
 
-    def seconds(self, numbers: set[int]) -> int:
+    def steps(self, numbers: set[int]) -> int:
         return sum(car.number in numbers for row in self.rows[self.first + 1:] for car in row)
 
     def hours(self, first: int = 0, last: int = 120) -> float:
-        return sum(first <= car.cell < last for row in self.rows[self.first + 1:] for car in row) / 3_600
+        return self.step * sum(first <= car.cell < last for row in self.rows[self.first + 1:] for car in row) / 3_600
+
+    def waited(self, inlet: int) -> float:
+        return self.step * sum(self.waiting[inlet][self.first:]) / 3_600
 
     def seen(self, detector: int | None) -> list[int]:
         assert detector is not None
@@ -81,7 +86,7 @@ class Watched:
 
 def find_delay(before: Watched, after: Watched) -> float:
     both = before.numbers & after.numbers
-    return (after.seconds(both) - before.seconds(both)) / 3_600
+    return before.step * (after.steps(both) - before.steps(both)) / 3_600
 
 
 def find_delay_at(before: Watched, after: Watched, place: int | None) -> float | None:
@@ -92,7 +97,7 @@ def find_delay_at(before: Watched, after: Watched, place: int | None) -> float |
 
 def find_through(before: Watched, after: Watched) -> list[float]:
     both = [number for at, number in before.arrivals if at is None and (None, number) in after.arrivals]
-    return [sum(run.arrivals[None, number] - number // 16 for number in both) / 3_600 for run in (before, after)]
+    return [run.step * sum(run.arrivals[None, number] - number // 16 for number in both) / 3_600 for run in (before, after)]
 
 
 def total(ask: Callable[[int, int, int], float], first: int) -> float:
@@ -102,10 +107,10 @@ def total(ask: Callable[[int, int, int], float], first: int) -> float:
 OF_ROAD: dict[str, Callable[[Watched, Of], float | None]] = {
     "hours": lambda run, of: run.hours(first=run.origin),
     "approach hours": lambda run, of: run.hours(last=run.origin),
-    "wait": lambda run, of: sum(run.waiting[of.inlet or 0][run.first:]) / 3_600,
+    "wait": lambda run, of: run.waited(of.inlet or 0),
     "wait queue": lambda run, of: max(run.waiting[of.inlet or 0][run.first:]),
-    "wait end": lambda run, of: next(((step - run.first + 1) / 60 for step in range(LAST - 1, run.first - 1, -1) if run.waiting[of.inlet or 0][step]), None),
-    "all hours": lambda run, of: run.hours() + sum(sum(cars[run.first:]) for cars in run.waiting) / 3_600,
+    "wait end": lambda run, of: next(((step - run.first + 1) * run.step / 60 for step in range(LAST - 1, run.first - 1, -1) if run.waiting[of.inlet or 0][step]), None),
+    "all hours": lambda run, of: run.hours() + sum(map(run.waited, range(len(INLETS)))),
     "waiting": lambda run, of: sum(run.queues(of.inlet or 0)) / 3_600,
     "together": lambda run, of: run.hours() + (sum(run.queues(of.inlet or 0)) + sum(
         sum(cars[run.first:]) for inlet, cars in enumerate(run.waiting) if inlet != of.inlet)) / 3_600,
@@ -130,9 +135,11 @@ OF_CHANGE: dict[str, Callable[[Watched, Watched, Of], list[float | None]]] = {
     "delay at": lambda before, after, of: [None, None, find_delay_at(before, after, of.detector)],
     "through": lambda before, after, of: [*find_through(before, after), find_through(before, after)[1] - find_through(before, after)[0]]}
 """By a figure's key: what it is before a change and after it, and what the change costs."""
+OF_SCRIPTS = ("delay", *SHOWN["delay"])
+"""The figures of scripts whose steps have any length. The others have steps of a second."""
 
 
-def run_day(chance: random.Random, first: int, origin: int) -> tuple[list[RoadRun], list[Watched], list[Figure]]:
+def run_day(chance: random.Random, first: int, origin: int, seconds: float = 1.0) -> tuple[list[RoadRun], list[Watched], list[Figure]]:
     """Run a random road before and after a closure, with a detector that is off for a while. Its first `origin` cells are an approach."""
     plan = Plan(length=120, inlets=[(cell, chance.randrange(4_000, 24_000)) for cell in INLETS], zone=30,
                 zones=[(chance.randrange(2, 6), chance.randrange(16_000)) for _ in range(4)], detectors=DETECTORS, words=chance.randrange(1_000))
@@ -147,9 +154,9 @@ def run_day(chance: random.Random, first: int, origin: int) -> tuple[list[RoadRu
             for kind, index, step, value in all_edits:
                 lab.edit("A", (kind, index), step, value)
             lab.advance("A", LAST)
-            run = read_run(lab, "A", Window(first, LAST), demands, period=70, origin=origin)
+            run = read_run(lab, "A", Window(first, LAST), demands, period=70, origin=origin, seconds=seconds)
             runs.append(dataclasses.replace(run, waiting=dict(enumerate(waiting))))
-            watched.append(Watched(lab, first, all_edits, demands, waiting, origin))
+            watched.append(Watched(lab, first, all_edits, demands, waiting, origin, seconds))
             figures = list_figures(lab.plan, FREEWAY._replace(origin=origin))
     return runs, watched, figures
 
@@ -163,8 +170,10 @@ class Table(unittest.TestCase):
         """Every figure has an oracle here, and equals it. Each oracle gives a number on some of the roads."""
         chance, known = random.Random(3), set()
         for case in range(4):
-            runs, watched, figures = run_day(chance, first=case % 2 * 80, origin=case // 2 * 30)
+            runs, watched, figures = run_day(chance, first=case % 2 * 80, origin=case // 2 * 30, seconds=(1.0, 3.0, 1.0, 0.4)[case])
             for figure, value in zip(figures, measure_day(figures, *runs)):
+                if runs[0].seconds != 1 and figure.key not in OF_SCRIPTS:
+                    continue
                 what = case, figure.title, figure.of
                 wanted = (OF_CHANGE[figure.key](watched[0], watched[1], figure.of) if figure.key in OF_CHANGE
                           else [OF_ROAD[figure.key](run, figure.of) for run in watched])
@@ -300,6 +309,33 @@ class Table(unittest.TestCase):
         self.assertEqual((row.before, row.after, row.difference, row.may_be_chance), (Mean(3.0), Mean(4.0), Mean(1.0), None))
         row, = compare([figure], [[Value(1.0, one, one - 1.0)] for one in (2.0, 3.0, 0.5)])
         self.assertEqual(row.others, 1)
+
+
+class Waiting(unittest.TestCase):
+    def test_the_cars_that_arrive_during_a_queue(self) -> None:
+        """Count the cars that arrive at the main inlet in the steps after which cars wait there; the flow is theirs in the time of these steps. Queues
+        before the window say nothing."""
+        runs, watched, _ = run_day(random.Random(8), first=60, origin=0, seconds=2.5)
+        for run, seen in zip(runs, watched):
+            waiting = {1: [5] * 60 + [0] * 20 + [3] * 150 + [0] * 60 + [1] * 30 + [0] * 80, 0: [2] * LAST, 2: [4] * 60 + [0] * 340}
+            steps = [step for step in range(60, LAST) if waiting[1][step]]
+            cars = sum(number % 16 == 1 and number // 16 in steps for number in seen.numbers)
+            self.assertEqual(len(steps), 180)
+            found = Waits.of(dataclasses.replace(run, waiting=waiting))
+            self.assertAlmostEqual(found.arriving or 0, cars / (len(steps) * 2.5 / 3_600), 9)
+            self.assertEqual((found.inlets, found.is_growing), ({0, 1}, True))
+            nobody = Waits.of(dataclasses.replace(run, waiting={**waiting, 1: [5] * 60 + [0] * 340, 0: [0] * LAST}))
+            self.assertEqual(nobody, Waits(frozenset(), False, None))
+
+    def test_lost_cars_are_averaged_over_all_days(self) -> None:
+        """Five cars are lost at a ramp on one of three days, seven and two at the main inlet on two, and none elsewhere."""
+        runs, watched, _ = run_day(random.Random(9), first=40, origin=0)
+        days = []
+        for missing in ({0: 5, 1: 7}, {1: 2}, {2: 1}):
+            arrivals = {inlet: range(40, 40 + watched[0].admitted(inlet, 40, LAST) + missing.get(inlet, 0)) for inlet in range(3)}
+            days.append(dataclasses.replace(runs[0], waiting={}, arrivals=arrivals))
+        self.assertEqual(average_lost(days), {"km 0.3": 5 / 3, "km 0": 9 / 3, "km 0.525": 0.0})
+        self.assertEqual(average_lost([*days, dataclasses.replace(days[1], waiting={1: [3] * LAST})])["km 0"], 9 / 4)
 
 
 class Days(unittest.TestCase):

@@ -1,6 +1,8 @@
 """Test that the mark of a sweep covers whatever decides its figures, and nothing else."""
 from __future__ import annotations
 
+import dis
+import functools
 import os
 import subprocess
 import sys
@@ -9,10 +11,11 @@ import threading
 import unittest
 from pathlib import Path
 from typing import Any, Callable
+from unittest import mock
 
 from test_page import TOP
 from zegdrut.program.programs import Made, describe_program, write_record
-from zegdrut.sweeps import Flows, OtherMark, Unknown, make_mark, sweep
+from zegdrut.sweeps import Flows, OtherMark, Unknown, make_mark, marks, sweep
 
 SCRIPT = '''
 import functools, math, re, sys
@@ -194,6 +197,58 @@ class Marks(unittest.TestCase):
         first = make_mark(lambda: ring, None).text
         ring[0] = 2
         self.assertNotEqual(make_mark(lambda: ring, None).text, first)
+
+    def test_keywords_of_a_partial(self) -> None:
+        """The arguments by place and by name that a partial adds count, and those of the function itself."""
+        def model(x: int, seed: int, gain: int = 1, shift: int = 2) -> dict[str, int]:
+            return {"y": x * gain + shift}
+        bound = [functools.partial(model), functools.partial(model, gain=3), functools.partial(model, gain=4), functools.partial(model, shift=3),
+                 functools.partial(model, 3), functools.partial(model, 4), functools.partial(functools.partial(model, gain=3), shift=3)]
+        self.assertEqual(len({make_mark(one, None).text for one in bound}), len(bound))
+        self.assertEqual(make_mark(functools.partial(model, gain=3), None), make_mark(bound[1], None))
+
+    def test_what_a_try_covers(self) -> None:
+        """Two functions with the same instructions differ if the handler of one covers more of them."""
+        def narrow(x: int) -> int:
+            y = int(x)
+            try:
+                z = abs(x)
+            except ValueError:
+                return 0
+            return y + z
+
+        def wide(x: int) -> int:
+            try:
+                y = int(x)
+                z = abs(x)
+            except ValueError:
+                return 0
+            return y + z
+        wide.__name__ = wide.__qualname__ = narrow.__name__
+        wide.__code__ = wide.__code__.replace(co_name=narrow.__code__.co_name, co_qualname=narrow.__code__.co_qualname)
+        if not hasattr(narrow.__code__, "co_exceptiontable"):
+            self.skipTest("this Python has its handlers among the instructions")
+
+        def list_instructions(function: Callable[..., Any]) -> list[tuple[str, object]]:
+            return [(step.opname, step.argval) for step in dis.get_instructions(function) if step.opname not in ("NOP", "EXTENDED_ARG", "CACHE")]
+        self.assertEqual(*(list_instructions(one) for one in (narrow, wide)))
+        self.assertNotEqual(make_mark(narrow, None).parts["the model"], make_mark(wide, None).parts["the model"])
+
+    def test_the_text_of_the_package(self) -> None:
+        """Each file of the package counts, with its name and in whatever folder it is. Files that are not Python do not."""
+        def total() -> str:
+            return marks.sum_package.__wrapped__()
+        folder = self.folder / "package"
+        (folder / "room" / "closet").mkdir(parents=True)
+        with mock.patch.object(marks, "PACKAGE", folder):
+            seen = [total()]
+            for name, text in (("__init__.py", "A = 1\n"), ("__init__.py", "A = 2\n"), ("room/a.py", "A = 1\n"), ("room/a.py", "A = 2\n"),
+                               ("room/closet/b.py", "B = 1\n"), ("room/closet/b.py", "B = 3\n"), ("room/b.py", "")):
+                (folder / name).write_text(text, encoding="utf-8")
+                seen.append(total())
+            self.assertEqual(len(set(seen)), len(seen))
+            (folder / "room" / "py.typed").write_text("more", encoding="utf-8")
+            self.assertEqual(total(), seen[-1])
 
     def test_the_measurement_and_the_program(self) -> None:
         """The source text of the program, its kit and its proof count; its path does not."""
