@@ -2,21 +2,20 @@
 from __future__ import annotations
 
 import contextlib
-import ctypes
 import os
 import signal
 import subprocess
 import sys
 import tempfile
 import time
+from pathlib import Path
 from types import FrameType
-from typing import Any, Sequence
+from typing import Any, Callable, Sequence
 
 PATIENCE = 10.0  # seconds that a command has to end after a signal, before it is killed
 LOOK = 0.1  # seconds between two looks at a command
 SHOWN = 2_000  # characters of a failed command's output
-DIES_WITH_PARENT = 1  # PR_SET_PDEATHSIG
-LIBRARY = ctypes.CDLL(None)
+sys.path.insert(0, str(Path(__file__).resolve().parent.parent / "python"))
 
 
 class Failed(Exception):
@@ -42,16 +41,21 @@ class Step:
         print("" if self.counts else f" {time.monotonic() - self.begin:.0f} s", file=sys.stderr, flush=True)
 
 
-def end_with_parent() -> None:
-    """Let this process get SIGTERM when its parent has ended for any reason. Let it receive SIGINT even if it runs in the background,
-    where shells ignore SIGINT."""
-    LIBRARY.prctl(DIES_WITH_PARENT, signal.SIGTERM)
-    signal.signal(signal.SIGINT, signal.SIG_DFL)
+def prepare_child() -> Callable[[], None]:
+    """Return what a child of this process does before its command runs: it gets SIGTERM when this process has ended for any reason, and
+    SIGINT even if it runs in the background, where shells ignore SIGINT."""
+    from zegdrut.base.child_processes import end_with_parent  # not at the top: first of all, this process handles signals
+    parent = os.getpid()
+
+    def prepare() -> None:
+        end_with_parent(parent, signal.SIGTERM)
+        signal.signal(signal.SIGINT, signal.SIG_DFL)
+    return prepare
 
 
 def start(words: Sequence[Any], **how: Any) -> subprocess.Popen[bytes]:
     """Start a command in a process group of its own, so that only this process gets a Ctrl-C and passes it on."""
-    return subprocess.Popen(list(map(str, words)), start_new_session=True, preexec_fn=end_with_parent, **how)
+    return subprocess.Popen(list(map(str, words)), start_new_session=True, preexec_fn=prepare_child(), **how)
 
 
 def end(process: subprocess.Popen[Any], number: int = signal.SIGTERM) -> None:

@@ -7,6 +7,7 @@ import importlib.machinery
 import os
 import secrets
 import signal
+import tempfile
 import unittest
 from pathlib import Path
 from typing import Any
@@ -16,6 +17,12 @@ from server.shell.client import Seat
 
 HERE = Path(__file__).resolve().parent
 
+# A setpriv that takes its time.
+SETPRIV = """#!/bin/sh
+touch {folder}/begun
+sleep 1
+exec /usr/bin/setpriv "$@"
+"""
 LONG: dict[str, Any] = {**SMALL, "length": 2_000, "zone": 1_000, "zones": [[5, 6_554]] * 2, "exit": 1}
 
 
@@ -83,6 +90,24 @@ class Orphans(Case):
 
     async def test_nothing_outlives_a_server_that_gets_a_signal(self) -> None:
         await self.ends(signal.SIGTERM)
+
+
+class Guards(Case):
+    async def test_a_program_that_is_guarded_too_late_ends_with_its_input(self) -> None:
+        """Kill a server before setpriv has asked the kernel to kill the program with it."""
+        mark, folder = secrets.token_hex(8), Path(self.enterContext(tempfile.TemporaryDirectory()))
+        (folder / "setpriv").write_text(SETPRIV.format(folder=folder), encoding="utf-8")
+        (folder / "setpriv").chmod(0o755)
+
+        async def has_begun() -> bool:
+            return (folder / "begun").exists()
+
+        async def has_ended() -> bool:
+            return not marked(mark)
+        server = self.server(plan=LONG, LIVE_MARK=mark, PATH=f"{folder}:{os.environ['PATH']}")
+        await until(has_begun, "the program begins")
+        server.process.kill()
+        await until(has_ended, "all has ended")
 
 
 class Termination(unittest.TestCase):

@@ -28,6 +28,7 @@ from server.shell.client import Seat
 from server.base.watch import SAID, Watch
 from working import is_too_long
 from zegdrut import program_path
+from zegdrut.base.child_processes import end_with_parent
 
 LIVE = Path(__file__).resolve().parent.parent
 PATIENCE = 120.0  # seconds; on a machine with nothing else to do, every wait is far shorter
@@ -45,7 +46,7 @@ LOGS: dict[Path, int] = {}  # logs of servers, and how many bytes of each were c
 FOLDERS: list[Path] = []
 CLAIMS: list[socket.socket] = []  # one for each port that this process has taken
 logging.getLogger("asyncio").setLevel(logging.ERROR)  # it warns where the machine is slow
-DIES_WITH_PARENT, GETS_ORPHANS = 1, 36  # PR_SET_PDEATHSIG, PR_SET_CHILD_SUBREAPER
+GETS_ORPHANS = 36  # PR_SET_CHILD_SUBREAPER
 ctypes.CDLL(None).prctl(GETS_ORPHANS, 1)
 
 
@@ -56,12 +57,8 @@ def transport_of(seat: Seat) -> asyncio.Transport:
     return connection.transport
 
 
-def dies_with_us(by: int = signal.SIGKILL) -> None:
-    ctypes.CDLL(None).prctl(DIES_WITH_PARENT, by)
-
-
 def started(command: list[str], **more: Any) -> subprocess.Popen[Any]:
-    process = subprocess.Popen(command, preexec_fn=dies_with_us, **more)
+    process = subprocess.Popen(command, preexec_fn=functools.partial(end_with_parent, os.getpid()), **more)
     STARTED.append(process)
     return process
 

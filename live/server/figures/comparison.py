@@ -6,10 +6,10 @@ figures of the first days, over the steps `first` to `last` - 1, as means with 9
 from __future__ import annotations
 
 import contextlib
-import ctypes
-import signal
+import os
 from typing import Awaitable, Callable, Iterator, NamedTuple, Sequence, TypedDict
 
+from zegdrut.base.child_processes import end_with_parent
 from zegdrut.base.intervals import warn_few_days
 from zegdrut.figures import Value, compare_roads, measure_roads
 from zegdrut.figures.days import SEEDS
@@ -96,10 +96,10 @@ def simulate_days(asked: DaysQuestion) -> Iterator[DaysAnswer]:
     compared, days = asked["compared"], list[Day]()
     early: dict[int, Day] = {}  # days that ended before an earlier one, by their places
     window, sides = Window(compared["first"], compared["last"]), sides_of(compared)
-    figures = list_figures(compared["plan"], units_of(compared))
+    figures, parent = list_figures(compared["plan"], units_of(compared)), os.getpid()
 
     def make_day(seed: int) -> Day:
-        ctypes.CDLL(None).prctl(1, signal.SIGKILL)  # PR_SET_PDEATHSIG: this process is killed as soon as the one that started it has ended
+        end_with_parent(parent)
         runs = [run_side(side, seed, window, with_rows=False) for side in sides]
         return Day(measure_roads(figures, runs), compare_all_ends(runs))
     first = int(compared["plan"]["words"])

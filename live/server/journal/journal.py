@@ -12,7 +12,6 @@ from __future__ import annotations
 
 import asyncio
 import contextlib
-import ctypes
 import errno
 import fcntl
 import gc
@@ -23,6 +22,8 @@ import signal
 import time
 from pathlib import Path
 from typing import Callable, Iterable, Iterator, ParamSpec
+
+from zegdrut.base.child_processes import end_with_parent
 
 from ..base.journal_lines import JOURNAL, CannotStart, JournalLine, journal_line, read_entries
 from ..base.json_values import to_json
@@ -163,12 +164,12 @@ def dropped_after_fault(path: Path, file: int) -> Iterator[None]:
 def fork_writer(path: Path, entries: Callable[[], Iterable[JournalLine]]) -> int:
     """Fork a process, which writes `entries()` to the replacement of a journal. Return its number. Its status is 0 if all of them are
     on the disk."""
-    process = os.fork()
+    parent, process = os.getpid(), os.fork()
     if process:
         return process
     status = 1
     try:
-        ctypes.CDLL(None).prctl(1, signal.SIGKILL)  # PR_SET_PDEATHSIG: ends with its parent
+        end_with_parent(parent)
         signal.set_wakeup_fd(-1)
         for signal_number in (signal.SIGINT, signal.SIGTERM):
             signal.signal(signal_number, signal.SIG_DFL)
