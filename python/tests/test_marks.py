@@ -55,7 +55,20 @@ def count_calls(function):
         return function(*given, **named)
     return counted
 
+class Repeated:
+    """A function that runs several times, as an object that wraps it."""
+    def __init__(self, function, times):
+        functools.update_wrapper(self, function)
+        self.function, self.times = function, times
+    def __call__(self, x):
+        return sum(self.function(x) for _ in range(self.times))
+
+def thrice(x):
+    return 3 * x
+
 SCALED = make_scaled(6)
+REPEATED = Repeated(thrice, 13)
+STORED = functools.lru_cache(maxsize=14)(lambda x: 15 * x)
 DRIVER = Driver(7)
 SETTINGS = Settings()
 SHIFT = functools.partial(pow, 2)
@@ -70,7 +83,7 @@ def road(x, seed, add=8, *, more=9):
         y = []
     name = x in NAMES or "z" in {"q", "r", "s"}
     return {"y": sum(y) + DRIVER.drive(x) + SCALED(x) + helpers.half(x) + third(x) + late.CONSTANT + math.floor(x) + SETTINGS.gain
-            + SHIFT(3) + add + more + bool(PATTERN) + name, "here": 0 * len(str(HERE))}
+            + SHIFT(3) + add + more + bool(PATTERN) + name + REPEATED(x) + STORED(x), "here": 0 * len(str(HERE))}
 
 def measured(x):
     return None
@@ -130,6 +143,8 @@ class Scripts(unittest.TestCase):
                 ("script", "partial(pow, 2)", "partial(pow, 3)"), ("script", "add=8", "add=7"), ("script", "more=9", "more=8"),
                 ("script", '"a", "c"}', '"a", "d"}'), ("script", '"r", "s"}', '"r", "t"}'), ("script", '"x+"', '"x*"'),
                 ("script", "return function(*given, **named)", "return dict(function(*given, **named))"),
+                ("script", "3 * x", "4 * x"), ("script", "(thrice, 13)", "(thrice, 12)"),
+                ("script", "sum(self.function", "max(self.function"), ("script", "15 * x", "16 * x"),
                 ("script", "math.floor", "math.ceil"), ("script", "ZeroDivisionError", "ValueError"),
                 ("helpers", "STEP = 10", "STEP = 11"), ("helpers", "x / 2", "x / 4"), ("helpers", "x / 3", "x / 5"),
                 ("late", "CONSTANT = 11", "CONSTANT = 12")):

@@ -8,7 +8,7 @@ A mark covers
 - the text of this package, the Python version, and the versions of installed packages that the model reaches.
 
 It does not depend on folders, hosts, line numbers, comments or docstrings. It does not see files that a model reads, the environment,
-or names that are looked up as strings (`getattr`).
+names that are looked up as strings (`getattr`), attributes that were set in modules of others or in `builtins`, and metaclasses.
 """
 from __future__ import annotations
 
@@ -242,8 +242,8 @@ class Walk:
         if isinstance(value, types.BuiltinFunctionType):
             return ("builtin", value.__qualname__, None if isinstance(value.__self__, types.ModuleType) else self.value(value.__self__),
                     self._installed(value.__module__ or ""))
-        if hasattr(value, "__wrapped__"):
-            return ("wrapper", type(value).__qualname__, self.value(value.__wrapped__))
+        if hasattr(value, "__wrapped__") and is_installed_class(type(value)):
+            return ("wrapper", self._installed(type(value).__module__), type(value).__qualname__, self.value(value.__wrapped__))
         if isinstance(value, (types.MethodDescriptorType, types.WrapperDescriptorType, types.MemberDescriptorType, types.GetSetDescriptorType,
                               types.ClassMethodDescriptorType, types.MethodWrapperType)):
             return ("slot", getattr(value, "__qualname__", value.__name__))
@@ -326,9 +326,9 @@ class Walk:
 
     def _class(self, kind: type) -> Token:
         """Describe a class: its name if it is installed, else its bases and everything in it."""
-        module = module_of(kind)
-        if kind.__module__ == "builtins" or module is not None and is_installed_module(module):
+        if is_installed_class(kind):
             return ("class", self._installed(kind.__module__), kind.__qualname__)
+        module = module_of(kind)
         if module is not None:
             self._reach.note_module(module)
         return ("class", kind.__qualname__, self._all(kind.__bases__),
@@ -344,6 +344,8 @@ class Walk:
         if isinstance(reduced, str):
             return ("installed", self._installed(str(getattr(value, "__module__", None) or type(value).__module__)), reduced)
         make, given, state, items, pairs = (*reduced, None, None, None)[:5]
+        if isinstance(state, dict):  # (`functools.update_wrapper` copies names and a docstring, which decide nothing)
+            state = {name: one for name, one in state.items() if name not in functools.WRAPPER_ASSIGNMENTS}
         return ("object", self._all((make, given, state, None if items is None else list(items), None if pairs is None else list(pairs))))
 
     def _unknown(self, what: str) -> Unknown:
@@ -357,6 +359,12 @@ def read_cell(cell: types.CellType) -> object:
         return cell.cell_contents
     except ValueError:
         return None
+
+
+def is_installed_class(kind: type) -> bool:
+    """Return whether a class is Python's, of an installed package, or of this one."""
+    module = module_of(kind)
+    return kind.__module__ == "builtins" or module is not None and is_installed_module(module)
 
 
 def is_installed_module(module: types.ModuleType) -> bool:
