@@ -43,6 +43,9 @@ export const connectionClosed = (reason, isTakenOver) =>
 export const otherSites = (count, isSealed = true) =>
   `, with ${plural(count, "other site")}${isSealed ? "" : " (messages are not authenticated)"}`;
 
+/** @param {number} behind */
+export const receiving = (behind) => `; receiving, ${plural(behind, "message")} behind`;
+
 /** @param {number} unsent */
 export const brokerAway = (unsent) =>
   `${CONNECTED}; the broker is unreachable, ${plural(unsent, "change")} not sent yet`;

@@ -234,8 +234,9 @@ const HANDLERS = {
   /** @param {Broker | null} said */
   broker(said) {
     if (!said) return;
-    const {state, unsent, sites, told, stays = [], sealed} = said;
-    const others = sites?.length ? messages.otherSites(sites.length, sealed !== false) : "";
+    const {state, unsent, behind, sites, told, stays = [], sealed} = said;
+    const others = (sites?.length ? messages.otherSites(sites.length, sealed !== false) : "")
+      + (behind ? messages.receiving(behind) : "");
     const text = state === "away" ? messages.brokerAway(unsent ?? 0) : messages.CONNECTED + others;
     setConnectionText(text, state === "away");
     const newest = told?.at(-1) ?? "";

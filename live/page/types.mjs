@@ -204,8 +204,9 @@
 /**
  * The state of the exchange with other sites.
  * @typedef {object} Broker
- * @property {string} state           "away": there is no broker
+ * @property {string} state           "away": the broker does not return this site's messages
  * @property {number} [unsent]        changes that are not sent yet
+ * @property {number} [behind]        messages of other sites that wait here
  * @property {{site: string, when: number}[]} [sites]
  * @property {string[]} [told]        sentences, the newest last
  * @property {string[]} [stays]       what is wrong now

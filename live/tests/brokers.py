@@ -289,7 +289,7 @@ class Brokers(Case):
         async with first.seat(key=ada.key) as ada:
             await ada.ask("gesture", key="again", note="€" * 200, shape=["block", 61, 61, 1, None, 1])
             await ada.ask("send", name="shared")
-            await until(lambda: self.is_told("was not sent, since the broker takes at most 500", ada), "it is reported")
+            await until(lambda: self.is_told("A change by Ada (€€€", ada), "it is reported")
             await until(lambda: self.broker_is(ada, "connected", 1), "it has not come back")
 
     async def test_a_broker_without_mqtt_5_is_reported(self) -> None:

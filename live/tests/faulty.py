@@ -12,6 +12,7 @@ import os
 import secrets
 import threading
 from pathlib import Path
+from types import SimpleNamespace
 from typing import Any, Callable, NamedTuple
 from unittest import mock
 
@@ -24,6 +25,7 @@ from server.lab.new_road import NewRoad
 from server.model.operations import Operation, Stamp
 from server.tabs.questions import Questions
 from server.base.settings import Settings
+from server.sites.brokers import Arrival
 from server.sites.sites import Sites
 
 CALLS = ("write", "fsync", "rename", "ftruncate")
@@ -176,15 +178,17 @@ class Bus:
         options = argparse.Namespace(broker="127.0.0.1:1", broker_user=None, broker_authority=None, site_key=key)
         with mock.patch.object(Sites, "_new_client", lambda _: self):
             site = Sites(here.lab, lambda: None, options)
-        site._loop, site._connected = asyncio.get_running_loop(), True
+        site._loop = asyncio.get_running_loop()
+        site._outbox.open(self, 1_000_000)  # type: ignore[arg-type]
         here.keeper.listeners.shared.on(lambda touched: site.send_shared())
         self.sites.append(site)
         return site
 
-    def publish(self, topic: str, payload: bytes, qos: int) -> None:
+    def publish(self, topic: str, payload: bytes, qos: int) -> SimpleNamespace:
         message = Message(topic, payload)
         self.hears(message)
         self.sent.append(message)
+        return SimpleNamespace(mid=len(self.seen) + len(self.sent))
 
     async def carry(self) -> None:
         """Deliver all messages to all sites, and what they send in reply."""
@@ -199,8 +203,9 @@ class Bus:
                 await self.give(site, message)
 
     async def give(self, site: Sites, message: Message) -> None:
-        """Hand a message to a site, as the broker's thread does."""
-        await asyncio.get_running_loop().run_in_executor(None, site._on_message, None, None, message)
+        """Hand a message to a site, as the broker's thread does, and let it be taken."""
+        await asyncio.to_thread(site._on_message, Arrival(message.topic, message.payload, None), lambda: None)
+        await site._inbox.take_waiting(site._receive_waiting)
         await asyncio.sleep(0)
 
     async def rounds(self, count: int = 1) -> None:

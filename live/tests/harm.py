@@ -270,7 +270,8 @@ class Bounds(Case):
         here = await self.enterAsyncContext(Here())
         site = bus.site(here)
         await site._receive("road/sites", "f", announced(site))
-        body = json.dumps({"form": 4, "sum": site._sum_up().total, "ranges": site._sum_up().ranges(),
+        sums = await site._sum_up()
+        body = json.dumps({"form": 4, "sum": sums.total, "ranges": sums.ranges(),
                            "timeline": await site._hash_road()}).encode()
         await site._receive(f"road/{site._road}/sum", "f", body)
         self.assertNotIn("another road", told(site))

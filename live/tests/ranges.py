@@ -4,6 +4,7 @@ from __future__ import annotations
 import base64
 import json
 import random
+import time
 import unittest
 from typing import Any
 from unittest import mock
@@ -42,7 +43,7 @@ class Ranges(unittest.TestCase):
                 self.assertEqual([theirs for _, theirs in found], [hash_by_hand(part) for part in parts])
                 self.assertTrue(all(len(part) <= most for part in parts[1:]), size)
                 self.assertEqual(sums.total, hash_by_hand(operations))
-                self.assertEqual(sums.differing(found), [])
+                self.assertEqual(sums.lacking(found), [])
 
     def test_operations_with_equal_counts_may_be_in_two_ranges(self) -> None:
         with mock.patch("server.sites.sums.MOST_IN_RANGE", 2):
@@ -51,7 +52,7 @@ class Ranges(unittest.TestCase):
             one.add([made(1), *equal, made(3)])
             for each in (made(3), *equal[::-1], made(1)):
                 other.add([each])
-            self.assertEqual((other.differing(one.ranges()), one.differing(other.ranges())), ([], []))
+            self.assertEqual((other.lacking(one.ranges()), one.lacking(other.ranges())), ([], []))
             self.assertEqual([begin for begin, _ in one.ranges()], [None, equal[1].stamp, equal[3].stamp, made(3).stamp])
 
     def test_a_message_has_a_few_kilobytes_however_many_operations_there_are(self) -> None:
@@ -77,8 +78,37 @@ class Away(Case):
         # Each site sends its own operations of the ranges that differ, cut where the other one cuts.
         self.assertTrue({15, 77} <= {*sent} <= {*range(11, 23), *range(71, 83)}, sorted(sent))
         self.assertLessEqual(len(sent), 2 * 2 * 12)
-        self.assertEqual(first._sum_up().total, second._sum_up().total)
+        self.assertEqual((await first._sum_up()).total, (await second._sum_up()).total)
         self.assertEqual(two.lab.state.shared.size, 100)
+
+    async def test_a_sum_with_wrong_ranges_costs_little_and_is_counted(self) -> None:
+        """Each of 257 ranges differs, and this site holds 20,000 operations."""
+        here = await self.enterAsyncContext(Here())
+        bus = Bus()
+        site, held = bus.site(here), [made(count) for count in range(1, 20_001)]
+        with mock.patch.object(site, "_sum_up", mock.AsyncMock(return_value=Sums())) as sum_up:
+            sum_up.return_value.add(held)
+            said = {"form": 4, "site": "east-00000000", "host": "there", "road": site._road, "count": 0}
+            await site._receive("road/sites", "f", json.dumps(said).encode())
+            ranges = [[None, "1"], *([[*one.stamp], "1"] for one in held[78::78])]
+            body = json.dumps({"form": 4, "sum": "1", "ranges": ranges, "timeline": ""}).encode()
+            await site._receive(f"road/{site._road}/sum", "f", body)
+            self.assertEqual((len(ranges), bus.sent), (257, []))
+            began = time.thread_time()
+            await site._receive(f"road/{site._road}/sum", "f", body)
+            took = time.thread_time() - began
+        sent = [each["stamp"] for one in bus.sent for each in json.loads(one.payload.partition(b"\n")[2])["operations"]]
+        self.assertEqual(sent, [[*one.stamp] for one in held[:500]])
+        self.assertLess(took, 0.2)
+        self.assertGreater(site._work, took / 2)
+
+    async def test_old_operations_that_come_late_are_added_up(self) -> None:
+        here = await self.enterAsyncContext(Here())
+        site, mixed = Bus().site(here), random.Random(2).sample([made(count) for count in range(1, 400)], 399)
+        with mock.patch("server.sites.sites.ADDED_AT_ONCE", 7):
+            for begin in range(0, 399, 57):
+                await here.lab.receive(mixed[begin:begin + 57], "", {})
+                self.assertEqual((await site._sum_up()).total, hash_by_hand(mixed[:begin + 57]))
 
     async def test_nobody_gets_a_second_piece_before_the_next_announcement(self) -> None:
         bus = Bus()

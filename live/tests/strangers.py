@@ -184,8 +184,7 @@ class Copies(Sited):
         """A machine that is resumed from a snapshot goes on under another one; and the broker chooses the client's name."""
         _, site = await self.here("north")
         before = site._seal.run
-        with mock.patch("server.sites.sites.longest_packet", lambda _: 1_000_000):
-            site._on_connect(mock.Mock(), None, None, 0, None)
+        site._on_open(mock.Mock(), 1_000_000)
         self.assertNotEqual(site._seal.run, before)
         self.assertEqual(site._seal.own, {before, site._seal.run})
         options = argparse.Namespace(broker="127.0.0.1:1", broker_user=None, broker_authority=None, site_key=None)
@@ -260,7 +259,7 @@ class Copies(Sited):
         restored, fourth = await self.here(None, kept)
         await self.bus.rounds(3)
         self.assertEqual((restored.lab.state.shared.size, len(restored.lab.state.seats[1].own)), (1, 1))
-        self.assertEqual(fourth._sum_up().total, second._sum_up().total)
+        self.assertEqual((await fourth._sum_up()).total, (await second._sum_up()).total)
         self.assertEqual((await restored.take(1))["size"], 0)
         self.assertEqual((await restored.share(1))["size"], 0)
         line, = (await restored.ask(1, "layers"))["layers"]
@@ -518,9 +517,11 @@ class Exchange(Sited):
     async def test_a_site_announces_itself_when_it_has_connected(self) -> None:
         """Until then the others would count its messages as those of a stranger."""
         here, site = await self.here("north")
-        site._note_connection(True)
+        site._note_connection(site._client, 1_000_000)
         message = self.bus.sent[0]
-        self.assertEqual((message.topic, json.loads(message.payload.partition(b"\n")[2])), ("road/sites", {
+        said = json.loads(message.payload.partition(b"\n")[2])
+        self.assertRegex(said.pop("echo"), "^[0-9a-f]{16}$")
+        self.assertEqual((message.topic, said), ("road/sites", {
             "form": 4, "site": here.lab.state.site, "host": site._host, "road": site._road, "count": here.keeper.counter.greatest}))
 
     async def test_a_site_with_another_road_is_named_and_its_counts_do_not_matter(self) -> None:
@@ -744,7 +745,7 @@ class Keys(Case):
             self.two.keeper.counter._fixed = time.time_ns() // 1_000_000 + day
             if 1 not in self.two.keys:
                 await self.two.join("Ben")
-            self.second._note_connection(False)  # for an hour; the other one goes on
+            self.second._note_connection(None)  # for an hour; the other one goes on
             self.bus.sites.remove(self.second)
             for step in (50, 51):
                 await self.share(step)
@@ -754,7 +755,7 @@ class Keys(Case):
             self.bus.sites.append(self.second)
             real = time.monotonic
             with mock.patch("server.sites.sites.time.monotonic", lambda: real() + 3_600):
-                self.second._note_connection(True)
+                self.second._note_connection(self.second._client, 1_000_000)
                 await self.bus.rounds(4)
             self.assertEqual(self.road(self.one), self.road(self.two))
             self.assertEqual(self.second.state()["left_out"], 0)

@@ -504,7 +504,7 @@ class Stalled(Case):
         await self.looks(2)
         second._peers.known.clear()
         await soon(first.announce())
-        first._send_missing("another", [(None, "")], "")
+        first._send_missing("another", [(None, "")], await first._sum_up())
         told = [one for one in bus.sent if one.topic.endswith("operations")]
         self.assertEqual([len(json.loads(one.payload.partition(b"\n")[2])["operations"]) for one in told], [2])  # what is on the disk
         bus.sent = [one for one in bus.sent if one not in told]

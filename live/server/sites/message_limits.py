@@ -18,6 +18,7 @@ WORK = 1_000  # messages: a second of work counts as this many
 STRANGERS, UNSEALED = "strangers", "unsealed"  # runs that have not announced themselves; messages without a valid seal
 ANNOUNCEMENTS, REPEATS = "announcements", "repeats"  # announcements; messages that bring nothing new
 FLOOD = 30.0  # seconds for which a sender over its limit is ignored
+K = TypeVar("K")
 V = TypeVar("V")
 
 
@@ -58,7 +59,7 @@ class Floods:
         return [sender for sender in [*self._until] if self.is_ignored(sender)]
 
 
-def drop_oldest(entries: dict[str, V]) -> None:
+def drop_oldest(entries: dict[K, V]) -> None:
     """Drop the oldest entry if there are too many."""
     if len(entries) > MOST_SENDERS:
         del entries[next(iter(entries))]

@@ -29,7 +29,7 @@ class Site(NamedTuple):
 HeardSite = TypedDict("HeardSite", {"site": str, "when": int})
 """The name of another site, and when it was last heard, in seconds since 1970."""
 BrokerState = TypedDict("BrokerState", {
-    "state": str, "unsent": int, "sites": Sequence[HeardSite], "told": Sequence[str], "stays": Sequence[str], "sealed": bool,
+    "state": str, "unsent": int, "behind": int, "sites": Sequence[HeardSite], "told": Sequence[str], "stays": Sequence[str], "sealed": bool,
     "left_out": int})
 """The connection to the broker, in the form of news. `told` are sentences about events, `stays` those that are true at present."""
 

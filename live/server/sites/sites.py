@@ -3,6 +3,9 @@
 A site sends an operation again until the broker has returned it. It acknowledges a message to the broker when the operations are on the
 disk. Every few seconds it announces itself, hashes of the operations that it holds, and a hash of the road that they give. A site that
 hears a different hash twice sends the operations that the other one may lack. So nothing is lost if a broker is killed or stores nothing.
+
+A connection is open once the broker has accepted it: then this site sends. It is heard while the broker returns this site's announcements:
+the page says so.
 """
 from __future__ import annotations
 
@@ -12,13 +15,15 @@ import collections
 import hashlib
 import itertools
 import logging
+import math
+import secrets
 import socket
 import time
 from time import thread_time
 from types import TracebackType
-from typing import TYPE_CHECKING, Callable, Deque, Iterator, Mapping, NamedTuple, Sequence
+from typing import Callable, Deque, Iterator, Mapping, NamedTuple, Sequence
 
-from ..base.json_values import to_json, Json
+from ..base.json_values import Json
 from ..base.refusals import Refused
 from ..base.supervised import supervise
 from ..journal.entries import Acknowledgement
@@ -30,15 +35,14 @@ from ..model.operations import Operation, Unreadable, sort_by_stamp
 from ..model.reading import LONGEST_NOTE, Malformed, clean_text
 from ..model.road import Road
 from ..program.program import Times
-from .brokers import HEADER, LONGEST_MESSAGE, broker_of, explain_refusal, keep_connected, longest_packet, new_client
+from .brokers import Arrival, Client, Handlers, broker_of, check_version
+from .inbox import Inbox
 from .message_limits import ANNOUNCEMENTS, FLOOD, REPEATS, STRANGERS, UNSEALED, Floods, drop_oldest
 from .messages import InvalidMessage, form_of, read_message, site_of, sum_of
-from .peers import ANNOUNCE_EVERY, BrokerState, Peers, Site
+from .outbox import Outbox
+from .peers import ANNOUNCE_EVERY, HEARD, BrokerState, Peers, Site
 from .seals import Seal, Unsealed, key_of, road_of
-from .sums import Bound, Sums, hash_of_edits, is_between
-
-if TYPE_CHECKING:
-    import paho.mqtt.client as mqtt
+from .sums import Bound, Sums, hash_of_edits
 
 LONGEST_RESEND_PAUSE = 300.0  # seconds after which an operation is sent again at the latest
 LARGE_MESSAGE = 100_000  # bytes; a longer message is read in a thread
@@ -46,6 +50,8 @@ OPERATIONS_AT_ONCE = 500  # operations that are sent, or taken, without a pause
 READ_FOR = 0.002  # seconds of processor time for reading operations, until others get twice as long
 MOST_SENTENCES, MOST_STAY = 5, 20  # sentences that are shown: said once, and true at present
 MOST_DONE = 20_000  # messages that bring nothing new and are known by their hashes
+ADDED_AT_ONCE = 2_000  # operations that are added to the hashes without a pause
+LASTED = 30.0  # seconds of connection after which a new client connects after a short pause again
 SITES_TOPIC = "road/sites"
 SENDERS = {STRANGERS: "A sender that does not announce itself", UNSEALED: "A sender without this site's --site-key",
            ANNOUNCEMENTS: "A sender of announcements", REPEATS: "A sender of messages that bring nothing new"}
@@ -65,10 +71,15 @@ class Sites:
 
     def __init__(self, lab: Lab, tell: Callable[[], None], options: argparse.Namespace) -> None:
         self._lab, self._keeper, self._tell, self._options = lab, lab.keeper, tell, options
+        check_version()
         self._broker = broker_of(options.broker)
         self._seal = Seal(key_of(options.site_key) if options.site_key else None)
         self._road, self._host = road_of(lab.keeper.reference, self._seal.key), socket.gethostname()
-        self._connected, self._longest = False, LONGEST_MESSAGE  # the longest packet that the broker takes, in bytes
+        self._operations_topic, self._sum_topic = f"road/{self._road}/operations", f"road/{self._road}/sum"
+        self._inbox: Inbox[tuple[str, str, bytes]] = Inbox()  # topic, run and body of each message
+        self._outbox = Outbox(self._seal, lambda: lab.keeper.state.titles, self._say)
+        self._opened, self._heard = math.inf, -math.inf  # when the connection was opened, and when it was heard last
+        self._echoes: dict[bytes, float] = {}  # what the latest announcements had in `echo`, and when they were sent
         self._peers = Peers(lab.keeper, self._road, self._seal.own)
         self._told: Deque[str] = collections.deque(maxlen=MOST_SENTENCES)
         self._sent: dict[Operation, tuple[float, float]] = {}  # when it was sent last, and the seconds until it is sent again
@@ -81,30 +92,47 @@ class Sites:
         self._counted: tuple[State, int, Sums] = lab.state, 0, Sums()  # how many operations are in the hashes, and these
         self._may_answer = True  # a piece of missing operations was not sent since the last announcement
         self._hashed: tuple[Road, str] | None = None  # a road, and the hash of its values
-        self._client = self._new_client()
+        self._client = self._new_client()  # now, since wrong options must refuse the start
 
     # Coming and going
 
     async def __aenter__(self) -> Sites:
-        self._loop = asyncio.get_running_loop()
-        keep_connected(self._client, *self._broker)
-        self._task = supervise("the announcements to other sites", self._announce_forever, self._keeper.listeners.ended.notify)
+        self._loop, warn = asyncio.get_running_loop(), self._keeper.listeners.ended.notify
+        self._tasks = [supervise("the announcements to other sites", self._announce_forever, warn),
+                       supervise("the messages of other sites", lambda: self._inbox.take_for_ever(self._receive_waiting), warn),
+                       supervise("the connection to the broker", self._stay_connected, warn, self._has_lasted)]
         return self
 
     async def __aexit__(self, kind: type[BaseException] | None, fault: BaseException | None,
                         trace: TracebackType | None) -> None:
-        self._task.cancel()
-        self._client.disconnect()
-        await self._loop.run_in_executor(None, self._client.loop_stop)
+        self._inbox.close()
+        for task in self._tasks:
+            task.cancel()
+        await asyncio.gather(*self._tasks, return_exceptions=True)
 
-    def _new_client(self) -> mqtt.Client:
-        client = new_client(self._options)
-        client.on_message, client.on_connect, client.on_disconnect = self._on_message, self._on_connect, self._on_gone
-        return client
+    def _new_client(self) -> Client:
+        handlers = Handlers(self._on_open, self._on_gone, self._on_message, self._on_receipt, self._on_refusal)
+        return Client(handlers, self._options, [(self._operations_topic, 1), (self._sum_topic, 0), (SITES_TOPIC, 0)])
+
+    async def _stay_connected(self) -> None:
+        """Stay connected to the broker until a fault ends the client. The next client is a new one."""
+        try:
+            await self._client.run(*self._broker)
+        finally:
+            self._note_connection(None)
+            self._client = self._new_client()
+
+    def _has_lasted(self, _: float) -> bool:
+        """Return whether the connection that has just ended was open for long."""
+        return time.monotonic() - self._opened > LASTED
+
+    @property
+    def _is_heard(self) -> bool:
+        return time.monotonic() - self._heard < HEARD
 
     def state(self) -> BrokerState:
         """Return the state for tabs: the connection, the sites with which this one exchanges operations, and sentences."""
-        return {"state": "connected" if self._connected else "away", "unsent": len(self._unreturned()),
+        return {"state": "connected" if self._is_heard else "away", "unsent": len(self._unreturned()), "behind": len(self._inbox),
                 "sites": [{"site": name, "when": int(site.when)} for name, site in self._peers.others().items()],
                 "told": list(self._told), "stays": list(itertools.islice(self._notices(), MOST_STAY)),
                 "sealed": self._seal.key is not None, "left_out": self._left_out}
@@ -129,35 +157,46 @@ class Sites:
 
     # What the broker's thread calls
 
-    def _on_connect(self, client: mqtt.Client, _data: object, _flags: object, code: object, properties: object) -> None:
-        if code == 0:
-            self._longest = longest_packet(properties)
-            self._seal.begin_run()
-            client.subscribe([(f"road/{self._road}/operations", 1), (f"road/{self._road}/sum", 0), (SITES_TOPIC, 0)])
-        self._loop.call_soon_threadsafe(self._note_connection, code == 0, None if code == 0 else explain_refusal(code))
+    def _on_open(self, client: Client, longest: int) -> None:
+        self._seal.begin_run()
+        self._loop.call_soon_threadsafe(self._note_connection, client, longest)
 
-    def _on_gone(self, _client: mqtt.Client, _data: object, _code: object, _properties: object) -> None:
-        self._loop.call_soon_threadsafe(self._note_connection, False)
+    def _on_gone(self) -> None:
+        self._loop.call_soon_threadsafe(self._note_connection, None)
 
-    def _on_message(self, _client: mqtt.Client, _data: object, message: mqtt.MQTTMessage) -> None:
-        # The broker's thread acknowledges the message when this returns, so wait until the operations are on the disk.
+    def _on_refusal(self, why: str) -> None:
+        self._loop.call_soon_threadsafe(self._say, why)
+
+    def _on_receipt(self, number: int, code: int) -> None:
+        self._loop.call_soon_threadsafe(self._outbox.note_receipt, self._operations_topic, number, code)
+
+    def _on_message(self, message: Arrival, acknowledge: Callable[[], None]) -> None:
+        """Put a message into the inbox, unless it brings nothing: then acknowledge it at once."""
         try:
             run, body = self._seal.open(message.topic, message.payload)
         except Unsealed as fault:
             self._left_out += 1
             if not self._floods.count_message(UNSEALED):
                 self._loop.call_soon_threadsafe(self._say, f"A message from the broker was ignored: {fault}")
+            acknowledge()
             return
+        if message.topic == SITES_TOPIC and run in self._seal.own:
+            self._look_for_echo(body)
         is_known = hashlib.sha256(body).digest() in self._done
         account = REPEATS if is_known else self._account_of(message.topic, run)
         over = self._floods.count_message(account) if account in SENDERS else self._floods.is_ignored(account)
         if over or is_known:
-            return
-        done = asyncio.run_coroutine_threadsafe(self._receive(message.topic, run, body), self._loop)
-        try:
-            done.result()
-        except Exception:  # pylint: disable=broad-except
-            logging.exception("a message from the broker could not be handled")
+            acknowledge()
+        else:
+            self._inbox.put(self._loop, (message.topic, run, body), acknowledge)
+
+    def _look_for_echo(self, body: bytes) -> None:
+        """Note that the connection is heard if a message has what an announcement of this site had in `echo` a moment ago."""
+        now = time.monotonic()
+        if any(echo in body and now < sent + HEARD for echo, sent in [*self._echoes.items()]):
+            was_heard, self._heard = self._is_heard, now
+            if not was_heard:
+                self._loop.call_soon_threadsafe(self._tell)
 
     def _account_of(self, topic: str, run: str) -> str:
         """Return the sender as which a message is counted. All runs that were not heard before are one sender, since anybody could
@@ -168,59 +207,30 @@ class Sites:
             return REPEATS
         return run if self._peers.has_heard(run) else STRANGERS
 
-    def _note_connection(self, is_connected: bool, refusal: str | None = None) -> None:
-        self._connected = is_connected
-        if refusal is not None:
-            self._say(refusal)
+    def _note_connection(self, client: Client | None, longest: int = 0) -> None:
+        """Note that a connection is open, or that it is gone."""
+        self._outbox.client, self._heard = None, -math.inf
         self._sent.clear()
-        self._tell()
-        if is_connected:
+        if client is not None:
+            self._opened = time.monotonic()
+            self._outbox.open(client, longest)
             self._announce_site()
             self.send_shared()
+        self._tell()
 
     # What is sent
-
-    def _publish(self, topic: str, value: Mapping[str, object], quality: int) -> None:
-        if not self._connected:
-            return
-        fields: Mapping[str, object] = {"form": SITE_FORM, **value}
-        payload = self._seal.seal(topic, to_json(fields).encode())
-        length = HEADER + len(topic) + len(payload)
-        if length > self._longest:
-            self._say(f"A message of {length} bytes was not sent, since the broker takes at most {self._longest}: raise the broker's "
-                      f"max_packet_size")
-        else:
-            self._client.publish(topic, payload, qos=quality)
-
-    def _send(self, operations: list[Operation]) -> None:
-        """Send operations, in messages of limited size. All operations of a message have the same title."""
-        titles = self._keeper.state.titles
-        for title, some in itertools.groupby(operations, lambda one: titles.get(one, "")):
-            part, size = list[Json](), 0
-            for written in (one.written() for one in some):
-                length = len(to_json(written).encode())
-                if part and size + length > self._longest // 2:
-                    self._send_part(part, title)
-                    part, size = [], 0
-                part.append(written)
-                size += length
-            self._send_part(part, title)
-
-    def _send_part(self, part: list[Json], title: str) -> None:
-        more = {"title": title} if title else {}
-        self._publish(f"road/{self._road}/operations", {"operations": part, **more}, 1)
 
     def send_shared(self) -> None:
         """Send the operations that the broker has not returned, in the order of their stamps: new ones at once, others again after
         growing pauses."""
-        if not self._connected:
+        if self._outbox.client is None:
             return
         now = time.monotonic()
         due = [one for one in sort_by_stamp(self._unreturned()) if sum(self._sent.get(one, (0.0, 0.0))) <= now][:OPERATIONS_AT_ONCE]
         for operation in due:
             _, pause = self._sent.get(operation, (0.0, ANNOUNCE_EVERY / 2))
             self._sent[operation] = now, min(LONGEST_RESEND_PAUSE, 2 * pause)
-        self._send(due)
+        self._outbox.send(self._operations_topic, due)
 
     def _unreturned(self) -> list[Operation]:
         """Return the operations that are on the disk and that the broker has not returned."""
@@ -228,8 +238,10 @@ class Sites:
         return [one for one in self._keeper.state.unsent if places.get(one, confirmed) < confirmed and not isinstance(one, Unreadable)]
 
     def _announce_site(self) -> None:
-        self._publish(SITES_TOPIC, {"site": self._keeper.state.site, "host": self._host, "road": self._road,
-                                    "count": self._keeper.counter.greatest}, 0)
+        now, echo = time.monotonic(), secrets.token_hex(8)
+        self._echoes = {**{one: sent for one, sent in self._echoes.items() if now < sent + HEARD}, echo.encode(): now}
+        self._outbox.publish(SITES_TOPIC, {"site": self._keeper.state.site, "host": self._host, "road": self._road,
+                                           "count": self._keeper.counter.greatest, "echo": echo})
 
     async def _announce_forever(self) -> None:
         while True:
@@ -246,8 +258,8 @@ class Sites:
         unsent = self._keeper.state.unsent
         self._sent = {one: when for one, when in self._sent.items() if one in unsent}
         self._may_answer = True
-        sums = self._sum_up()
-        self._publish(f"road/{self._road}/sum", {"sum": sums.total, "ranges": sums.ranges(), "timeline": await self._hash_road()}, 0)
+        timeline = await self._hash_road()
+        self._outbox.send_sum(self._sum_topic, {"timeline": timeline}, await self._sum_up())
         self._tell()
 
     async def _hash_road(self) -> str:
@@ -259,16 +271,22 @@ class Sites:
             self._hashed = road, await self._loop.run_in_executor(None, hash_of_edits, edits)
         return self._hashed[1]
 
-    def _sum_up(self) -> Sums:
+    async def _sum_up(self) -> Sums:
         """Return the hashes of the operations on the shared road that are on the disk."""
-        state = self._keeper.state
-        if self._counted[0] is not state:
-            self._counted = state, 0, Sums()
-        self._counted[2].add(state.shared.operations(self._counted[1], self._keeper.confirmed))
-        self._counted = state, self._keeper.confirmed, self._counted[2]
-        return self._counted[2]
+        while True:
+            state, confirmed = self._keeper.state, self._keeper.confirmed
+            _, first, sums = self._counted if self._counted[0] is state else (state, 0, Sums())
+            end = min(confirmed, first + ADDED_AT_ONCE)
+            sums.add(state.shared.operations(first, end))
+            self._counted = state, max(first, end), sums
+            if end == confirmed:
+                return sums
+            await asyncio.sleep(0)
 
     # What comes
+
+    async def _receive_waiting(self, message: tuple[str, str, bytes]) -> None:
+        await self._receive(*message)
 
     async def _receive(self, topic: str, run: str, body: bytes) -> None:
         self._work, is_new, account = 0.0, False, self._account_of(topic, run)
@@ -364,39 +382,42 @@ class Sites:
         return is_new or bool(back)
 
     async def _receive_hash(self, run: str, value: Mapping[str, Json]) -> None:
+        began = thread_time()
         theirs, ranges = sum_of(value)
+        self._work += thread_time() - began
         if not self._peers.is_connected(run) or form_of(value) != SITE_FORM:
             return
-        ours = self._sum_up().total
+        sums = await self._sum_up()
+        ours = sums.total
         pair_now = theirs, ours
         before = self._sums.pop(run, None)
         self._sums[run] = pair_now
         drop_oldest(self._sums)
         if theirs == ours:
             self._pauses.pop(run, None)
-            if value.get("timeline") != await self._hash_road() and self._sum_up().total == ours:
+            if value.get("timeline") != await self._hash_road() and (await self._sum_up()).total == ours:
                 self._say(f"{self._peers.describe_site(run)} has the same changes but computes a different road from them: its server "
                           f"has a different version. Update the older of the two")
         elif self._may_answer and (before == pair_now or run in self._pauses and self._pauses[run].place):
-            self._send_missing(run, ranges, ours)
+            began = thread_time()
+            self._send_missing(run, ranges, sums)
+            self._work += thread_time() - began
 
-    def _send_missing(self, run: str, ranges: Sequence[tuple[Bound, str]], held: str) -> None:
+    def _send_missing(self, run: str, ranges: Sequence[tuple[Bound, str]], sums: Sums) -> None:
         """Send a run a piece of the operations of the ranges in which it holds others. Nobody gets another piece until this site's next
         announcement. After the last piece, begin again after a pause, which grows each time."""
-        now = time.monotonic()
+        now, held = time.monotonic(), sums.total
         last = self._pauses.pop(run, Pause(0.0, 0.0, 0, held))
         place, pause = last.place, last.long if last.held == held else min(last.long, ANNOUNCE_EVERY)
         if not place and now < last.told + pause:
             self._pauses[run] = last
             return
-        other = self._sum_up().differing(ranges)
-        lacking = sorted((one for one in self._keeper.state.shared.operations(0, self._keeper.confirmed)
-                          if any(is_between(one.stamp, begin, end) for begin, end in other)), key=lambda one: one.stamp)
+        lacking = sums.lacking(ranges)
         self._may_answer = False
         logging.info("another site holds different operations: sending it %d to %d of %d", place,
                      min(place + OPERATIONS_AT_ONCE, len(lacking)), len(lacking))
-        self._send(lacking[place:place + OPERATIONS_AT_ONCE])
+        self._outbox.send(self._operations_topic, lacking[place:place + OPERATIONS_AT_ONCE])
         has_more = place + OPERATIONS_AT_ONCE < len(lacking)
         self._pauses[run] = (Pause(now, pause, place + OPERATIONS_AT_ONCE, held) if has_more
-                                else Pause(now, min(LONGEST_RESEND_PAUSE, max(ANNOUNCE_EVERY, 2 * pause)), 0, held))
+                             else Pause(now, min(LONGEST_RESEND_PAUSE, max(ANNOUNCE_EVERY, 2 * pause)), 0, held))
         drop_oldest(self._pauses)

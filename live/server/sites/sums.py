@@ -1,8 +1,8 @@
 """Hash the operations that a site holds, by ranges of stamps, so that a site that was away gets what it lacks and not everything.
 
     sums.add(operations)
-    sums.ranges()               [(first stamp, hash), ..], the oldest first; a range ends where the next one begins
-    sums.differing(ranges)      the ranges of another site in which this one holds other operations
+    sums.ranges()                 [(first stamp, hash), ..], the oldest first; a range ends where the next one begins
+    sums.lacking(ranges)          the operations in those ranges of another site in which this one holds others
 """
 from __future__ import annotations
 
@@ -13,7 +13,7 @@ from bisect import bisect_left
 from typing import Iterable, Sequence
 
 from ..base.json_values import to_json
-from ..model.operations import Operation, Stamp
+from ..model.operations import Operation, Stamp, sort_by_stamp
 from ..model.projection import Edits
 
 MOST_IN_RANGE, MOST_RANGES = 1_024, 257  # operations of a range; ranges: the newest 256, and one for all older operations
@@ -26,23 +26,29 @@ class Sums:
     """The operations of a site in the order of their stamps, and the hashes in their names added up."""
 
     def __init__(self) -> None:
+        self._operations: list[Operation] = []
         self._stamps: list[Stamp] = []
         self._upto = [0]  # by number of operations: the sum of the hashes of the oldest ones
 
     def add(self, operations: Iterable[Operation]) -> None:
-        fresh = sorted((one.stamp, first_bits(one.stamp)) for one in operations)
-        if fresh and self._stamps and fresh[0][0] < self._stamps[-1]:
-            hashes = (after - before for before, after in itertools.pairwise(self._upto))
-            fresh = sorted([*zip(self._stamps, hashes), *fresh])
-            self._stamps, self._upto = [], [0]
-        for stamp, bits in fresh:
-            self._stamps.append(stamp)
-            self._upto.append(self._upto[-1] + bits)
+        """Add operations. What is newer than the oldest of them is added up again."""
+        fresh = sort_by_stamp(operations)
+        place = bisect_left(self._stamps, fresh[0].stamp) if fresh else len(self._stamps)
+        newer = self._operations[place:]
+        del self._operations[place:], self._stamps[place:], self._upto[place + 1:]
+        for operation in sort_by_stamp([*newer, *fresh]) if newer else fresh:
+            self._operations.append(operation)
+            self._stamps.append(operation.stamp)
+            self._upto.append(self._upto[-1] + first_bits(operation.stamp))
+
+    def _places(self, begin: Bound, end: Bound) -> tuple[int, int]:
+        """Return the places of the operations from a stamp to before another one."""
+        first = 0 if begin is None else bisect_left(self._stamps, begin)
+        return first, len(self._stamps) if end is None else max(first, bisect_left(self._stamps, end))
 
     def hash_between(self, begin: Bound, end: Bound) -> str:
         """Return the hash of the operations from a stamp to before another one."""
-        first = 0 if begin is None else bisect_left(self._stamps, begin)
-        last = len(self._stamps) if end is None else max(first, bisect_left(self._stamps, end))
+        first, last = self._places(begin, end)
         return f"{(self._upto[last] - self._upto[first]) % MODULUS:x}"
 
     @property
@@ -50,23 +56,23 @@ class Sums:
         """Return the hash of all operations."""
         return self.hash_between(None, None)
 
-    def ranges(self) -> list[tuple[Bound, str]]:
-        cuts: list[Bound] = [*self._stamps[MOST_IN_RANGE::MOST_IN_RANGE][1 - MOST_RANGES:]]
-        return [(begin, self.hash_between(begin, end)) for begin, end in bounds_of([None, *cuts])]
+    def ranges(self, most: int | None = None) -> list[tuple[Bound, str]]:
+        """Return at most `MOST_RANGES` ranges with their hashes, or at most `most`."""
+        cuts: list[Bound] = [*self._stamps[MOST_IN_RANGE::MOST_IN_RANGE]]
+        begins = cuts[max(0, len(cuts) + 1 - (most or MOST_RANGES)):]
+        return [(begin, self.hash_between(begin, end)) for begin, end in bounds_of([None, *begins])]
 
-    def differing(self, ranges: Sequence[tuple[Bound, str]]) -> list[tuple[Bound, Bound]]:
-        """Return the bounds of those ranges in which this site holds other operations than a site that sent these ranges."""
+    def lacking(self, ranges: Sequence[tuple[Bound, str]]) -> list[Operation]:
+        """Return the operations in those ranges in which this site holds others than a site that sent these ranges, in the order of their
+        stamps."""
         pairs = bounds_of([begin for begin, _ in ranges])
-        return [(begin, end) for (begin, end), (_, theirs) in zip(pairs, ranges) if self.hash_between(begin, end) != theirs]
+        different = (self._places(begin, end) for (begin, end), (_, theirs) in zip(pairs, ranges) if self.hash_between(begin, end) != theirs)
+        return [*itertools.chain.from_iterable(self._operations[first:last] for first, last in different)]
 
 
 def bounds_of(begins: Sequence[Bound]) -> list[tuple[Bound, Bound]]:
     """Return the bounds of ranges, given where each begins."""
     return [*zip(begins, [*begins[1:], None])]
-
-
-def is_between(stamp: Stamp, begin: Bound, end: Bound) -> bool:
-    return (begin is None or begin <= stamp) and (end is None or stamp < end)
 
 
 def first_bits(stamp: Stamp) -> int:
