@@ -1,6 +1,8 @@
 """Test sweeps by executors: processes, threads, joblib's loky, Dask workers on this machine that lack the repository, and a job array."""
 from __future__ import annotations
 
+import contextlib
+import io
 import os
 import shutil
 import signal
@@ -8,10 +10,12 @@ import socket
 import subprocess
 import sys
 import tempfile
+import threading
 import time
 import unittest
-from concurrent.futures import Executor, ProcessPoolExecutor, ThreadPoolExecutor
+from concurrent.futures import Executor, Future, ProcessPoolExecutor, ThreadPoolExecutor
 from pathlib import Path
+from types import SimpleNamespace
 from typing import Any
 from unittest import mock
 
@@ -179,6 +183,68 @@ class Executors(unittest.TestCase):
         with mock.patch.dict(sys.modules, {"cloudpickle": None}), ProcessPoolExecutor(1) as executor, \
                 self.assertRaisesRegex(Fault, "the model cannot be sent to workers .*cloudpickle"):
             sweep(lambda x, seed: {"y": x}, {"x": [1]}, executor=executor)
+
+
+class ForgetfulDask(ThreadPoolExecutor):
+    """An executor like that of a Dask client whose scheduler is started again: it loses one result, or returns it once its jobs are sent again."""
+
+    def __init__(self, lost: int, late: bool = False) -> None:
+        super().__init__(2)
+        self._client = self
+        self.status, self.scheduler, self.workers = "running", SimpleNamespace(address="tcp://somewhere:8786"), {"one": {}}
+        self._sent, self._lost, self._late = 0, lost, late
+        self._kept: dict[object, tuple[Future[Any], Future[Any]]] = {}
+
+    def scheduler_info(self) -> dict[str, Any]:
+        return {"id": "second" if self._sent > self._lost else "first", "workers": self.workers}
+
+    def submit(self, *given: Any, **named: Any) -> Future[Any]:
+        self._sent += 1
+        found = super().submit(*given, **named)
+        if self._sent == self._lost:
+            forgotten: Future[Any] = Future()
+            forgotten.set_running_or_notify_cancel()  # (so it cannot be cancelled)
+            self._kept[given[-1]] = forgotten, found
+            return forgotten
+        if self._late and given[-1] in self._kept:
+            late, result = self._kept.pop(given[-1])
+            late.set_result(result.result())
+        return found
+
+
+class Silence(unittest.TestCase):
+    """Sweeps by a cluster that does not answer, with short times to wait."""
+
+    def setUp(self) -> None:
+        for name, seconds in (("LOOK", 0.05), ("SETTLED", 0.2), ("SILENCE", 0.6)):
+            self.enterContext(mock.patch(f"zegdrut.sweeps.engine.{name}", seconds))
+        self.said = self.enterContext(contextlib.redirect_stderr(io.StringIO()))
+
+    def test_a_result_that_a_new_scheduler_has_forgotten(self) -> None:
+        """Lose each of the first results in turn, for ever or until its jobs were sent again: each run is there once."""
+        wanted = sweep(add, {"x": range(40)}, (3, 5)).rows
+        for lost in (1, 3, 6):
+            for late in (False, True):
+                with ForgetfulDask(lost, late) as executor:
+                    self.assertEqual(sweep(add, {"x": range(40)}, (3, 5), executor=executor).rows, wanted, (lost, late))
+
+    def test_a_sweep_that_waits_says_for_what(self) -> None:
+        with ForgetfulDask(2) as executor:
+            executor.workers, executor.scheduler_info = {}, lambda: {"id": "first", "workers": executor.workers}  # type: ignore[method-assign]
+
+            def come_back() -> None:
+                executor.scheduler_info = lambda: {"id": "second", "workers": {"one": {}}}  # type: ignore[method-assign]
+            back = threading.Timer(1.5, come_back)
+            back.start()
+            self.assertEqual(len(sweep(add, {"x": range(40)}, (3, 5), executor=executor).rows), 80)
+            back.join()
+        self.assertEqual(set(self.said.getvalue().splitlines()), {"the sweep waits for 1 s: no workers at tcp://somewhere:8786: Debian's workers end "
+                                                                  "with their scheduler, so start them again"})
+
+    def test_a_client_that_has_given_up_ends_the_sweep(self) -> None:
+        with ForgetfulDask(2) as executor, self.assertRaisesRegex(Fault, "the executor is broken .its client has lost the scheduler.: the finished runs are kept"):
+            executor.status = "closed"
+            sweep(add, {"x": range(40)}, (3, 5), executor=executor)
 
 
 class Folder(unittest.TestCase):

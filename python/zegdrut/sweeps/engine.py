@@ -6,7 +6,8 @@
         sweep(road, points, executor=client.get_executor(), ship=True)
 
 Short jobs are sent in batches. A batch that is lost (its worker died, or the scheduler was started again) is sent once more, a job at a
-time; what is lost then is a failure. Each job has one outcome, also if a scheduler repeats it.
+time; what is lost then is a failure. Each job has one outcome, also if a scheduler repeats it. While no result comes from Dask, one line
+on standard error says what is missing.
 """
 from __future__ import annotations
 
@@ -17,6 +18,8 @@ import io
 import pickle
 import platform
 import queue
+import sys
+import time
 import types
 import warnings
 import zipfile
@@ -27,6 +30,7 @@ from typing import Callable, Generator, Iterator, Sequence, TypeVar
 
 from ..base.errors import Fault
 from ..program.programs import NoProgram, describe_program, find_program, read_copy
+from .dask_cluster import DaskCluster, find_cluster
 from .marks import PACKAGE, Reach, Unknown, is_installed_module, module_of, sum_package
 from .pool import Outcome, run_in_parallel
 from .remote import NEEDS, RAN, Order, Ran, Reply, boot
@@ -44,6 +48,12 @@ BATCH_SECONDS = 0.25
 MOST_OF_BATCH = 100
 ATTEMPTS = 3
 """How often a job is sent that was cancelled by the executor or lost."""
+LOOK = 1.0
+"""The seconds without a result after which a sweep looks at its cluster."""
+SETTLED = 5.0
+"""The seconds after which a new scheduler has ended the futures of the earlier one, but for those that Dask has forgotten."""
+SILENCE = 40.0
+"""The seconds without a result after which a sweep says what is missing."""
 
 
 class Boot:
@@ -79,6 +89,10 @@ class Engine:
         self._size = 1
         self._shipping = 0
         self._seconds, self._ran = 0.0, 0
+        self._cluster = find_cluster(executor)
+        self._scheduler = self._cluster.find_scheduler() if self._cluster else None
+        self._forgotten: set[Future[Reply]] = set()  # futures of an earlier scheduler
+        self._renewed, self._heard = 0.0, time.monotonic()  # when there was a new scheduler, and the last result
 
     def run(self) -> Generator[Outcome, None, None]:
         """Run all. Yield each outcome as it comes. Fault: the executor is broken, or a worker cannot run the work."""
@@ -89,7 +103,7 @@ class Engine:
                 if not self._sent:
                     self._send(self._held[:1], True)
                     del self._held[:1]
-                yield from self._receive(self._done.get())
+                yield from self._wait()
         finally:
             if not self._ran:  # (workers that lack something say so at once; Dask logs a future that ends while it is cancelled)
                 wait(self._sent, LAST_REPLIES)
@@ -117,6 +131,38 @@ class Engine:
         self._shipping += with_all
         self._sent[future] = batch, with_all
         future.add_done_callback(self._done.put)
+
+    def _wait(self) -> Iterator[Outcome]:
+        """Wait for a future to end. Yield the outcomes of its batch, or of batches that were lost meanwhile."""
+        try:
+            future = self._done.get(timeout=None if self._cluster is None else LOOK)
+        except queue.Empty:
+            assert self._cluster is not None
+            yield from self._look(self._cluster)
+        else:
+            self._heard = time.monotonic()
+            if future in self._sent:  # (otherwise its batch was sent again)
+                yield from self._receive(future)
+
+    def _look(self, cluster: DaskCluster) -> Iterator[Outcome]:
+        """Send again what was sent to an earlier scheduler and has not ended. Say what is missing if there is no result for long."""
+        if cluster.is_closed():
+            raise describe_broken("its client has lost the scheduler")
+        now, scheduler = time.monotonic(), cluster.find_scheduler()
+        if scheduler not in (None, self._scheduler):
+            self._scheduler, self._renewed, self._forgotten = scheduler, now, set(self._sent)
+        if self._forgotten and now - self._renewed > SETTLED:
+            for future in self._forgotten & set(self._sent):
+                batch, was_shipping = self._sent.pop(future)
+                self._shipping -= was_shipping
+                future.cancel()
+                yield from self._repeat(batch, CancelledError())
+            self._forgotten.clear()
+        if now - self._heard > SILENCE:
+            missing = cluster.explain_silence()
+            if missing:
+                print(f"the sweep waits for {SILENCE:.0f} s: {missing}", file=sys.stderr, flush=True)
+            self._heard = now
 
     def _receive(self, future: Future[Reply]) -> Iterator[Outcome]:
         batch, was_shipping = self._sent.pop(future)
@@ -168,7 +214,7 @@ class NoWorker(Fault):
     """A worker cannot run a sweep."""
 
 
-def describe_broken(fault: BaseException) -> Fault:
+def describe_broken(fault: BaseException | str) -> Fault:
     """Return the error for an executor that runs nothing any more."""
     return Fault(f"the executor is broken ({fault}): the finished runs are kept, and the same call with a new executor continues")
 

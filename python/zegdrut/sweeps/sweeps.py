@@ -37,8 +37,8 @@ if TYPE_CHECKING:
     import pandas
     import xarray
 
-Progress = Callable[[int, int, int, float], None]
-"""A function that gets the number of runs done, of all runs and of failed runs, and the seconds left."""
+Progress = Callable[[int, int, int, float | None], None]
+"""A function that gets the number of runs done, of all runs and of failed runs, and the seconds left (None after the first run)."""
 
 
 class Failure(NamedTuple):
@@ -246,14 +246,15 @@ class Table:
             progress: Progress | None) -> list[Failure]:
         """Add the outcomes of the missing runs as they come. Return the failures, in the order of the runs."""
         failures: dict[int, Failure] = {}
-        begin = time.monotonic()
+        first = 0.0  # the time of the first outcome: until then, there may be no worker
         for ended, done in enumerate(outcomes, 1):
+            first = first or time.monotonic()
             number = missing[done.job]
             error = done.error or add_result(self.results, keys[number], cast(Row, done.value))
             if error:
                 failures[number] = Failure(*self._listed[number], error)
             if progress:
-                left = (time.monotonic() - begin) / ended * (len(missing) - ended)
+                left = (time.monotonic() - first) / (ended - 1) * (len(missing) - ended) if ended > 1 else None
                 progress(whole - len(missing) + ended, whole, len(failures), left)
         self.failures = [failures[number] for number in sorted(failures)]
         return self.failures
