@@ -297,10 +297,10 @@ class Dask(Folder):
     def start(self, name: str, module: str, *words: str) -> subprocess.Popen[bytes]:
         """Start a part of Dask in a folder and a home of its own, without variables of this process."""
         home = self.folder / name
-        home.mkdir()
+        (home / "tmp").mkdir(parents=True)
         process = subprocess.Popen([self.python, "-m", f"distributed.cli.{module}", *words, "--no-dashboard"], cwd=home, stdin=subprocess.DEVNULL,
                                    stdout=subprocess.DEVNULL, stderr=subprocess.DEVNULL, start_new_session=True,
-                                   env={"PATH": "/usr/bin:/bin", "HOME": str(home), "PYTHONDONTWRITEBYTECODE": "1"})
+                                   env={"PATH": "/usr/bin:/bin", "HOME": str(home), "TMPDIR": str(home / "tmp"), "PYTHONDONTWRITEBYTECODE": "1"})
         self.processes.append(process)
         return process
 
@@ -337,6 +337,8 @@ class Dask(Folder):
         self.assertEqual(running.wait(2 * PATIENCE), 0)
         self.assertIn(f"60 runs are in {table}", running.communicate()[1].splitlines())  # Dask may complain afterwards
         self.assertEqual((self.folder / table).read_bytes(), (self.folder / "own.csv").read_bytes())
+        left = [path.name for name in ("one", "two") for path in (self.folder / name / "tmp").iterdir()]
+        self.assertEqual([name for name in left if "dask" not in name], [])
 
     def test_a_scheduler_that_is_started_again(self) -> None:
         """Kill the scheduler, whose workers then end, and start it again with another worker: each run is in the table once."""

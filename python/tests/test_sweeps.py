@@ -4,6 +4,7 @@ from __future__ import annotations
 import csv
 import itertools
 import os
+import resource
 import shutil
 import signal
 import subprocess
@@ -335,6 +336,27 @@ class Resuming(Folder):
         self.assertEqual(wrong, [])
         with open(self.out, newline="", encoding="utf-8") as file:
             self.assertEqual([int(row["x"]) for row in csv.DictReader(file)], [x for x in range(300) for _ in (1, 2)])
+
+    def test_a_full_disk(self) -> None:
+        """Let no file be longer than some bytes: the command names the file and says how to go on, and then does."""
+        words = ["model.py:slow", *GRID[:-1], "1-30"]
+        self.assertEqual(self.run_command(*words, TAKES="0").returncode, 0)
+        whole, about = self.out.read_bytes(), self.out.with_name("out.csv.json").stat().st_size
+        self.assertGreater(len(whole), 2 * about)
+        for most, full in ((len(whole) * 2 // 3, "out.csv"), (about // 2, "out.csv.json")):
+            for path in (self.out, self.log):
+                path.unlink(missing_ok=True)
+            ran = subprocess.run(self.command(*words, TAKES="0"), capture_output=True, text=True, check=False, cwd=self.folder, env=self.environment,
+                                 preexec_fn=lambda most=most: resource.setrlimit(resource.RLIMIT_FSIZE, (most, most)))
+            self.assertEqual((ran.returncode, ran.stderr.splitlines()[-2]), (2, "the finished runs are in out.csv: the same command continues from there"))
+            self.assertRegex(ran.stderr.splitlines()[-1], f"^{full} was not written: (File too large|No space left on device): make room on the disk, "
+                                                          "and repeat the command$")
+            kept = len(read_rows(self.out))
+            self.assertEqual(kept > 100, full == "out.csv")
+            self.assertLess(kept, 450)
+            self.log.unlink(missing_ok=True)
+            self.assertEqual(self.run_command(*words, TAKES="0").returncode, 0)
+            self.assertEqual((self.out.read_bytes(), len(self.list_begun())), (whole, 450 - kept))
 
     def test_two_sweeps_with_one_file(self) -> None:
         results = Results(self.out, ["a", "b", "seed", "model"])

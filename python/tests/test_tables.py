@@ -113,6 +113,10 @@ class Tables(unittest.TestCase):
         self.assertRegex(ran.stderr, "out.csv was made by road-[0-9a-f]{12}, and this run is road-[0-9a-f]{12}; changed: the program\n")
         self.assertEqual((ran.returncode, ran.stderr.splitlines()[-1]), (1, "other.csv is different from out.csv"))
         self.assertEqual([row["flow"] for row in load(self.folder / "other.csv").rows], [row["flow"] for row in load(self.out).rows])
+        self.out.unlink()
+        ran = self.run_command("-m", "zegdrut", "sweep", "--again", "out.csv.json", "--out", "third.csv")
+        self.assertEqual((ran.returncode, ran.stderr.splitlines()[-1]), (1, "out.csv is not there, so nothing was compared with third.csv"))
+        self.assertEqual((self.folder / "third.csv").read_bytes(), whole)
 
     def test_a_table_that_grew(self) -> None:
         """Grow a table by other points, seeds and a part: the file beside it lists all its runs in the order of its rows, and makes it again."""

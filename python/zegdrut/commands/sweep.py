@@ -44,7 +44,7 @@ from ..base.progress_bars import Bar
 from ..reports.outputs import prepare_file
 from ..sweeps.about import About, Named, explain_change, read_about
 from ..sweeps.marks import OtherMark
-from ..sweeps.results import Row, format_row, replace_file, read_rows, parse_cell, format_cell
+from ..sweeps.results import DiskFull, Row, format_row, replace_file, read_rows, parse_cell, format_cell
 from ..sweeps.runs import Flows, Measure, Model, Run, list_points, make_grid, runs
 from ..sweeps.sweeps import Progress, Sweep, find_mark, sweep
 
@@ -229,7 +229,10 @@ def open_executor(dask: str | None) -> Iterator[Executor | None]:
 
 def compare_tables(one: Path, other: Path) -> bool:
     """Say whether two tables are the same. Return it."""
-    is_same = one.exists() and one.read_bytes() == other.read_bytes()
+    if not one.exists():
+        print(f"{one} is not there, so nothing was compared with {other}", file=sys.stderr)
+        return False
+    is_same = one.read_bytes() == other.read_bytes()
     print(f"{other} is {'the same as' if is_same else 'different from'} {one}" + ", byte for byte" * is_same, file=sys.stderr)
     return is_same
 
@@ -254,7 +257,7 @@ def run_sweep(given: argparse.Namespace) -> int:
             found = sweep(find_function(model), listed, out=out, jobs=given.jobs, part=part, take=given.take, version=given.version,
                           program=given.program, timeout=given.timeout, units=split_options("unit", given.unit), measure=find_measure(measure),
                           named=(model, measure), progress=show_on(bar), executor=executor, ship=given.ship)
-    except KeyboardInterrupt:
+    except (KeyboardInterrupt, DiskFull):
         bar.end()
         print(f"the finished runs are in {out}: the same command continues from there", file=sys.stderr)
         raise

@@ -38,7 +38,8 @@ class NoProgram(LabError):
     """There is no program at the path."""
 
     def __init__(self, path: Path | str) -> None:
-        super().__init__(f"no program at {path}: in the repository, `tools/try-program` makes an unproved one in about three minutes, and "
+        where = f"no program at {path}" if is_repository() or Path(path) != PROVED else "no program"  # (that path is one of a repository)
+        super().__init__(f"{where}: in the repository, `tools/try-program` makes an unproved one in about three minutes, and "
                          "`tools/prove-program` a proved one; elsewhere, set ROAD_LAB to its path")
         self.path = path
 

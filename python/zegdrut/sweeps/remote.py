@@ -3,6 +3,7 @@ from __future__ import annotations
 
 import atexit
 import functools
+import importlib
 import pickle
 import shutil
 import tempfile
@@ -55,7 +56,12 @@ def boot(python: str, text: str, package: bytes | None, program: bytes | None, o
         import shutil
         import tempfile
         import zipfile
-        folder = tempfile.mkdtemp(prefix="zegdrut-")
+        try:
+            from distributed import get_worker
+            room = get_worker().local_directory
+        except (ImportError, ValueError):  # (this is not a worker of Dask)
+            room = None
+        folder = tempfile.mkdtemp(prefix="zegdrut-", dir=room)
         atexit.register(shutil.rmtree, folder, True)
         zipfile.ZipFile(io.BytesIO(package)).extractall(folder)
         sys.path.insert(0, folder)
@@ -104,10 +110,19 @@ KEPT: dict[str, Path] = {}
 def keep_program(shipped: bytes) -> Path:
     """Keep a shipped program, with its record, in a folder that is removed at the end of this process. Return its path."""
     data, record = pickle.loads(shipped)
-    folder = Path(tempfile.mkdtemp(prefix="zegdrut-"))
+    folder = Path(tempfile.mkdtemp(prefix="zegdrut-", dir=find_worker_folder()))
     atexit.register(shutil.rmtree, folder, True)
     KEPT["program"] = write_copy(folder / "road_lab", data, record)
     return KEPT["program"]
+
+
+def find_worker_folder() -> str | None:
+    """Return the folder of this worker of Dask, which removes what a killed worker has left there; None for other processes."""
+    try:
+        worker = importlib.import_module("distributed").get_worker()
+    except (ImportError, ValueError):
+        return None
+    return str(worker.local_directory)
 
 
 def kept_program() -> Path | None:

@@ -8,6 +8,7 @@ from __future__ import annotations
 
 import contextlib
 import csv
+import errno
 import fcntl
 import io
 import json
@@ -15,7 +16,7 @@ import os
 from pathlib import Path
 from typing import Callable, Dict, Iterable, List, Mapping, NamedTuple, Sequence, Union
 
-from ..base.errors import Fault
+from ..base.errors import Fault, LabError
 
 PAGE = 4_096
 """The size of a memory page in bytes. What is written within one page appears to a reader at once."""
@@ -160,14 +161,27 @@ def parse_table(data: bytes, path: Path | str) -> tuple[list[str], list[list[str
     return columns, [row for row in lines[1:] if row]
 
 
+class DiskFull(LabError):
+    """A file could not be written."""
+
+    def __init__(self, path: Path | None, why: str | None) -> None:
+        super().__init__(f"{path} was not written: {why}: make room on the disk, and repeat the command")
+
+
 def replace_file(path: Path, data: bytes) -> None:
-    """Replace a file, so that a reader finds the old one or the new one. OSError: it was not written."""
+    """Replace a file, so that a reader finds the old one or the new one. DiskFull: it was not written. OSError: the path is wrong."""
     temporary = path.with_name(path.name + ".new")
-    with open(temporary, "wb") as file:
-        file.write(data)
-        file.flush()
-        os.fsync(file.fileno())
-    os.replace(temporary, path)
+    try:
+        with open(temporary, "wb", buffering=0) as file:
+            if file.write(data) != len(data):
+                raise OSError(errno.ENOSPC, os.strerror(errno.ENOSPC))
+            os.fsync(file.fileno())
+        os.replace(temporary, path)
+    except OSError as fault:
+        if fault.filename is not None:
+            raise
+        temporary.unlink()
+        raise DiskFull(path, fault.strerror) from None
 
 
 class Results:
@@ -259,14 +273,18 @@ class Results:
             self._on_kind()
 
     def _append(self, data: bytes) -> None:
+        """Write lines at the end of the file. DiskFull: not all of them were written; what was is cut off when the file is opened again."""
         if self._file is None:
             return
         room = PAGE - os.fstat(self._file).st_size % PAGE
-        if room < len(data) <= PAGE:
-            self._is_padded = True
-            os.write(self._file, b"\n" * room)
-        if os.write(self._file, data) != len(data):
-            raise OSError(f"{self.path}: the row was not written: the disk is full")
+        try:
+            if room < len(data) <= PAGE:
+                self._is_padded = True
+                os.write(self._file, b"\n" * room)
+            if os.write(self._file, data) != len(data):
+                raise DiskFull(self.path, os.strerror(errno.ENOSPC))
+        except OSError as fault:
+            raise DiskFull(self.path, fault.strerror) from None
 
     def sort(self, keys: Sequence[Sequence[str]]) -> None:
         """Sort the rows with these keys to the front, in this order. Rewrite the file if the order has changed."""
