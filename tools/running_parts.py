@@ -22,7 +22,8 @@ LONGEST = 3_600  # seconds that a part may run without printing anything
 PASSED, FAILED, LEFT_OUT = "ok", "FAILED", "left out"
 SAYS_LEFT_OUT = "left out: "  # a test begins a line with this if the test itself leaves something out
 SAYS_BAD_EDIT = ": BAD EDIT: "  # rt says this of an edit that cannot be applied or compiled; `rt ci` then passes
-SAYS_BY_ANSWER = ": refused, as it must be (only because a proof file names what the edit took away"  # this refusal shows nothing
+# rt says this of an edit that is refused because an answer of a proof file names what the edit removed: that shows nothing
+SAYS_BY_ANSWER = re.compile(r": refused, as it must be(?: \(only because a proof file names|: \S+ error: \d+ declarations? that depend on )")
 DUE = re.compile(r"(\d+) mutants are due\b")  # the last line of tools/try-mutants
 
 
@@ -80,7 +81,7 @@ class Report:
         """Record a part that ended with status 0: its output decides whether it has passed. Print the lines that say so."""
         lines = output.splitlines()
         bad, left_out = [line for line in lines if SAYS_BAD_EDIT in line], [line for line in lines if line.startswith(SAYS_LEFT_OUT)]
-        answered = [line for line in lines if SAYS_BY_ANSWER in line]
+        answered = [line for line in lines if SAYS_BY_ANSWER.search(line)]
         due = [match for match in map(DUE.match, lines) if match]
         has_failed = bad or self.is_strict and left_out
         self.add(part, FAILED if has_failed else PASSED, seconds)
