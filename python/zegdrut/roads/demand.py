@@ -19,7 +19,7 @@ Let q be the chance and f the admitted cars per step. q / f is 1 if nothing hind
 by a monotone cubic. More chances are simulated if the interpolation is not accurate. Without slowing, q / f = 1 + q q exactly.
 
 How accurate it is. The chance for a demand admits that demand to 0.5 %, or to two standard errors of a run of 100,000 seconds if
-these are more. With `QUICK` that is 1 %, or two standard errors. `recipes/measured/by_hand` checks both with runs of other seeds.
+these are more. With `QUICK` that is 1 %, or two standard errors. Tests check both with runs of other seeds.
 
 What QUICK leaves out. It counts the steps in which the cell of the inlet is free: f is q times their share. Their number varies less than
 that of the cars that enter, so fewer steps suffice. It also leaves out the road between two inlets where it changes nothing. A car that is
