@@ -1,6 +1,7 @@
 """Compute the delay of single cars by hand, and read and rewind trips."""
 from __future__ import annotations
 
+import collections
 import unittest
 
 from checked import Checked
@@ -196,6 +197,41 @@ class Cars(Checked):
                 anew.follow(lab, "A", 2_500)
                 for name in ("left", "passed", "cars"):
                     self.check(f"step {step}: {name}", getattr(trips, name), getattr(anew, name))
+
+
+class Periods(unittest.TestCase):
+    def test_cars_by_their_entry(self) -> None:
+        """Compare two random runs by loops over `cars` of each step: the cars of each period of entry, which is counted from a step that no period of
+        step 0 begins with, and those of each inlet."""
+        plan = Plan(length=70, inlets=[(0, 24_000), (30, 9_000)], zone=35, zones=[(5, 9_000), (4, 14_000)], words=6, replicas=["before", "after"])
+        period, begin, last = 37, 15, 260
+        with RoadLab(plan) as lab:
+            for step, value in ((60, 1), (140, 0)):
+                lab.edit("after", ("block", 45), step, value)
+            runs, rows = [], []
+            for at in ("before", "after"):
+                lab.advance(at, last)
+                runs.append(Trips(lab.plan))
+                runs[-1].follow(lab, at, last)
+                rows.append([{car.number for car in lab.cars(at, step)} for step in range(last + 1)])
+        steps = [collections.Counter(number for row in each for number in row) for each in rows]
+        every = sorted(set(steps[0]) | set(steps[1]))
+
+        def make_entries(numbers: list[int]) -> Entries:
+            through = [number for number in numbers if all(number in one and number not in each[-1] for one, each in zip(steps, rows))]
+            delays = [steps[1][number] - steps[0][number] for number in through]
+            return Entries(Group(len(through), sum(steps[0][number] for number in through), sum(steps[1][number] for number in through),
+                                 max(delays, default=None)),
+                           sum(number not in steps[1] for number in numbers), sum(number not in steps[0] for number in numbers))
+        keys = sorted({(number // 16 - begin) // period for number in every})
+        found = compare_delays(*runs, period=period, begin=begin)
+        self.assertEqual(found.periods, {key: make_entries([number for number in every if begin + period * key <= number // 16 < begin + period * (key + 1)])
+                                         for key in keys})
+        self.assertEqual(keys, list(range(-1, 7)))
+        self.assertTrue(any(one.lost for one in found.periods.values()))
+        for inlet, entered in found.inlets.items():
+            both = [{number for number in one if number % 16 == inlet} for one in steps]
+            self.assertEqual(entered, Entered(*map(len, (both[0], both[1], both[0] - both[1], both[1] - both[0]))))
 
 
 if __name__ == "__main__":

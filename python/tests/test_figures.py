@@ -11,7 +11,7 @@ from zegdrut import Car, Fault, Plan, RoadLab
 from zegdrut.figures import (FREEWAY, Figure, Mean, Of, RoadRun, Value, choose, compare, compare_roads, list_figures, list_means, measure_day,
                              measure_roads, read_run, simulate_days)
 from zegdrut.figures import days as figures_of_days
-from zegdrut.figures.queues import Ends, Waits, average_lost, with_lost
+from zegdrut.figures.queues import Ends, Waits, average_lost, compare_ends, with_lost
 from zegdrut.figures.table import SHOWN
 from zegdrut.figures.trips import Window
 from zegdrut.roads.demand import Drivers
@@ -326,6 +326,26 @@ class Waiting(unittest.TestCase):
             self.assertEqual((found.inlets, found.is_growing), ({0, 1}, True))
             nobody = Waits.of(dataclasses.replace(run, waiting={**waiting, 1: [5] * 60 + [0] * 340, 0: [0] * LAST}))
             self.assertEqual(nobody, Waits(frozenset(), False, None))
+
+    def test_the_cars_at_the_end(self) -> None:
+        """Count the cars of the last row of two roads, and of those that entered both how many more the second one has. A lane that is closed until
+        shortly before the end keeps cars on the second road, and others from entering it."""
+        plan = Plan(length=120, inlets=[(cell, 20_000) for cell in INLETS], zone=30, zones=[(4, 9_000)] * 4, words=5)
+        runs, numbers, last = [], [], []
+        for works in ([], [("block", 75, 250, 1), ("block", 75, 370, 0)]):
+            with RoadLab(plan) as lab:
+                for kind, index, step, value in works:
+                    lab.edit("A", (kind, index), step, value)
+                lab.advance("A", LAST)
+                runs.append(read_run(lab, "A", Window(40, 385)))
+                rows = [{car.number for car in lab.cars("A", step)} for step in range(386)]
+                numbers.append(set().union(*rows))
+                last.append(rows[385])
+        both = numbers[0] & numbers[1]
+        wanted = Ends(len(last[0]), len(last[1]), len(last[1] & both) - len(last[0] & both))
+        self.assertEqual(compare_ends(*runs), wanted)
+        self.assertNotEqual(wanted.more, wanted.after - wanted.before)
+        self.assertEqual(compare_ends(*runs[::-1]), Ends(wanted.after, wanted.before, -wanted.more))
 
     def test_lost_cars_are_averaged_over_all_days(self) -> None:
         """Five cars are lost at a ramp on one of three days, seven and two at the main inlet on two, and none elsewhere."""
