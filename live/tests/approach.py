@@ -16,8 +16,8 @@ from running import LIVE, Case, Server, until
 from server.figures.files import time_writer
 from server.journal.entries import read_plan_line
 from server.shell.put import InvalidWords, read_change
-from zegdrut.base.units import METRES, Units
-from zegdrut.roads.clock import Clock
+from zegdrut.base import METRES, Units
+from zegdrut.roads import Clock
 
 # Zones of 0.15 km have 20 cells, so the approach has 160, and km 0 is zone 8. A free car drives 4.8 cells a step: 320 cells take 67 seconds,
 # and with two minutes the run begins 4 minutes before minute 0. The main demand enters 33 seconds before it is at km 0.

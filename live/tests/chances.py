@@ -11,9 +11,8 @@ from typing import Any, Iterator, Sequence, cast
 from unittest import mock
 
 from zegdrut.base.wire import PlanLine
-from zegdrut.figures import Value
+from zegdrut.figures import FREEWAY, Value
 from zegdrut.figures.queues import Ends
-from zegdrut.figures.table import FREEWAY
 
 from faulty import Here, soon
 from figures_told import SIDES, mine, of_side, value

@@ -18,9 +18,9 @@ from server.figures.figures import sides_of
 from server.figures.report import closures_of, demand_text, facts_of
 from server.lab import new_road
 from running import LIVE, PATIENCE, SMALL, Case, Server, end, new_folder, program, started, until
-from zegdrut.base.units import METRES, Units
+from zegdrut.base import METRES, Units
 from zegdrut.base.wire import PlanLine, WrittenEdit
-from zegdrut.roads.clock import Clock
+from zegdrut.roads import Clock
 
 KM: dict[str, Any] = {
     "length": 1.5, "main": 900, "ramps": [], "minutes": 15, "stretch": [0.3, 0.6], "detectors": [0.75],
@@ -293,8 +293,7 @@ class Freeways(Case):
 
     def of_recipe(self, path: Path) -> Any:
         """Return the recipe's road in cells and steps."""
-        from zegdrut.commands.freeway import FIGURES
-        from zegdrut.roads.road_in_cells import make_road
+        from zegdrut.roads import FIGURES, make_road
         return make_road(FIGURES.override(path))
 
     def test_an_unreadable_file_is_refused_and_leaves_nothing(self) -> None:

@@ -23,9 +23,9 @@ from server.journal.entries import read_plan_line
 from server.model.reading import read_operation
 from server.shell.put import InvalidWords, find_chance, find_state, read_change
 from works import admits
-from zegdrut.base.units import METRES, Units
+from zegdrut.base import METRES, Units
 from zegdrut.base.wire import WrittenEdit
-from zegdrut.roads.clock import Clock
+from zegdrut.roads import Clock
 
 PLAN = read_plan_line(SMALL)
 UNITS = Units(METRES, 1.0)
@@ -204,7 +204,7 @@ class Shell(Case):
         self.assertEqual((where, value[:2]), (["capacity", 4, 5, 1_200, None], [900, 2]))
         admits(self, value, (5, 0.1, 0.1), 40)
         self.assertEqual(shapes, {"limit": ["limit", 1, 2, 600, None, 2]})
-        from zegdrut.roads.demand import Drivers, measure_admission
+        from zegdrut.roads import Drivers, measure_admission
         self.assertAlmostEqual(measure_admission(Drivers(5, 6_554)).admitted(chance), 1_200, delta=0.5)
 
     async def test_changes_are_exported_as_tables(self) -> None:

@@ -10,7 +10,8 @@ from pathlib import Path
 from typing import Any, Sequence
 from unittest import mock
 
-from zegdrut.program.scripts import Script, open_edited
+from zegdrut.program import Script
+from zegdrut.program.scripts import open_edited
 
 from faulty import Disk, Here, soon, written
 from oracle import by_rows, oracle_of

@@ -4,7 +4,8 @@ from __future__ import annotations
 import dataclasses
 
 from checked import Checked
-from zegdrut.roads.road_in_cells import Fault, Figures, make_road
+from zegdrut.roads import Figures, make_road
+from zegdrut.roads.road_in_cells import Fault
 
 # In cells: 400, and the limit 5.
 PLAIN = Figures(length=3, limit=135, slowing=0.25, main=500, ramps=[(0.75, 100)], sections=[], stalled=[], detectors=[],

@@ -3,12 +3,12 @@ from __future__ import annotations
 
 from typing import Sequence
 
+from zegdrut.measurements import Measured, Station
 from zegdrut.measurements.congestion import JudgedDay
-from zegdrut.measurements.counts_on_road import Measured, Series
+from zegdrut.measurements.counts_on_road import Series
 from zegdrut.measurements.goodness_of_fit import Passed
-from zegdrut.measurements.stations import Station
 from zegdrut.program.road_rows import Sums
-from zegdrut.roads.clock import Clock
+from zegdrut.roads import Clock
 
 INTERVAL = 300
 Line = Sequence["float | None"]

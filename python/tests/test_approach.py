@@ -15,19 +15,17 @@ from typing import Callable, Sequence
 
 from zegdrut import Fault, Plan, RoadLab
 from zegdrut.commands import delay, freeway, report
-from zegdrut.commands.freeway import FIGURES
 from zegdrut.commands.measured import draw_space_time, find_places
 from zegdrut.commands.metering import Control, make_minute_table, make_site, run_again, run_day as simulate_metered_day
+from zegdrut.figures import Trips, Window, count_admitted_cars
 from zegdrut.figures.queues import run_day
-from zegdrut.figures.trips import Trips, Window, count_admitted_cars
 from zegdrut.figures.waiting import ask_edits, find_narrow_zone, make_waiting_roads
-from zegdrut.measurements.congestion import list_segments
-from zegdrut.measurements.counts_on_road import Measured, Series
-from zegdrut.measurements.goodness_of_fit import make_model, simulate_day
-from zegdrut.measurements.stations import Station
-from zegdrut.program.scripts import read_script
-from zegdrut.roads.road_in_cells import Figures, Road, Section, Stalled, make_road, measure_chances, warm_up_minutes, with_lead
-from zegdrut.roads.road_scripts import make_script
+from zegdrut.measurements import Measured, Station, list_segments, make_model
+from zegdrut.measurements.counts_on_road import Series
+from zegdrut.measurements.goodness_of_fit import simulate_day
+from zegdrut.program import read_script
+from zegdrut.roads import FIGURES, Figures, Section, Stalled, make_road, make_script, measure_chances
+from zegdrut.roads.road_in_cells import Road, warm_up_minutes, with_lead
 
 CELLS_A_KM = 1_000 / 7.5
 PLAIN = dataclasses.replace(FIGURES, length=1.5, limit=135, slowing=0.2, main=900, ramps=[], sections=[], stalled=[], detectors=[], stretch=(0.3, 1.2),

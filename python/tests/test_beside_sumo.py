@@ -19,11 +19,11 @@ from types import ModuleType
 from unittest import mock
 
 from checked import Checked
+from zegdrut.measurements import Measured, Station
 from zegdrut.measurements.congestion import JudgedDay
-from zegdrut.measurements.counts_on_road import Measured, Series
-from zegdrut.measurements.stations import Station
+from zegdrut.measurements.counts_on_road import Series
 from zegdrut.program.road_rows import Sums
-from zegdrut.roads.clock import Clock
+from zegdrut.roads import Clock
 
 RECIPE = Path(__file__).resolve().parents[2] / "recipes" / "beside_sumo"
 KEPT = RECIPE / "kept"

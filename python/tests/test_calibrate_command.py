@@ -22,16 +22,13 @@ from typing import Callable
 from measured_recipe import MeasuredChecks, passed
 from zegdrut.base.errors import Fault
 from zegdrut.commands import calibrate
-from zegdrut.commands.freeway import FIGURES
-from zegdrut.measurements import calibration
-from zegdrut.measurements.calibration import Bounds, Calibration, Point, Trial
-from zegdrut.measurements.congestion import Both, compare_time_lost, list_segments, simulate_segments
-from zegdrut.measurements.counts_on_road import Measured, Series, put_on_road
-from zegdrut.measurements.goodness_of_fit import make_model
-from zegdrut.measurements.stations import Station, read_counts
+from zegdrut.measurements import Bounds, Measured, Station, calibration, list_segments, make_model, put_on_road, read_counts, simulate_segments
+from zegdrut.measurements.calibration import Calibration, Point, Trial
+from zegdrut.measurements.congestion import Both, compare_time_lost
+from zegdrut.measurements.counts_on_road import Series
 from zegdrut.reports.pictures import draw_points
+from zegdrut.roads import Clock, FIGURES
 from zegdrut.roads.calibrated import Leaving, read_calibration, write_calibration
-from zegdrut.roads.clock import Clock
 from zegdrut.roads.demand import QUICK
 
 RECIPE = Path(__file__).resolve().parents[2] / "recipes" / "measured"

@@ -7,13 +7,11 @@ from types import SimpleNamespace
 from unittest import mock
 
 from station_days import INTERVAL, make_measured
-from zegdrut.commands.freeway import FIGURES
-from zegdrut.measurements import calibration
-from zegdrut.measurements.calibration import Bounds, Misfit, Point, Trial, correct_factor, evaluate_day, fit_day, make_trial
-from zegdrut.measurements.counts_on_road import Measured
+from zegdrut.measurements import Bounds, Measured, calibration
+from zegdrut.measurements.calibration import Misfit, Point, Trial, correct_factor, evaluate_day, fit_day, make_trial
 from zegdrut.measurements.goodness_of_fit import Passed, Run
+from zegdrut.roads import FIGURES, Figures
 from zegdrut.roads.demand import Effort
-from zegdrut.roads.road_in_cells import Figures
 
 WIDE = Bounds((0.0, 0.4), (0.0, 0.7), (0.8, 1.2))
 

@@ -9,11 +9,9 @@ import unittest
 from pathlib import Path
 
 from zegdrut import Fault, RoadLab
-from zegdrut.commands.freeway import FIGURES
-from zegdrut.roads.capacity import describe_capacity, find_capacity, measure_outflow
-from zegdrut.roads.demand import Drivers
-from zegdrut.roads.road_in_cells import Figures, make_road, make_shapes
-from zegdrut.roads.road_scripts import make_script
+from zegdrut.roads import Drivers, FIGURES, Figures, find_capacity, make_road, make_script
+from zegdrut.roads.capacity import describe_capacity, measure_outflow
+from zegdrut.roads.road_in_cells import make_shapes
 
 SEEDS = range(1, 7)
 T_OF_FIVE = 2.570582

@@ -6,9 +6,8 @@ import unittest
 from pathlib import Path
 
 from checked import Checked
-from zegdrut.measurements.counts_on_road import put_on_road
-from zegdrut.measurements.stations import read_counts
-from zegdrut.roads.clock import Clock, InvalidTime
+from zegdrut.measurements import put_on_road, read_counts
+from zegdrut.roads import Clock, InvalidTime
 
 
 class Clocks(Checked):

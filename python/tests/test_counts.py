@@ -5,9 +5,8 @@ import tempfile
 import unittest
 from pathlib import Path
 
-from zegdrut.measurements.counts_on_road import Measured, put_on_road
-from zegdrut.measurements.stations import read_counts
-from zegdrut.roads.clock import Clock
+from zegdrut.measurements import Measured, put_on_road, read_counts
+from zegdrut.roads import Clock
 
 STATIONS = {"up": (9.0, 3, "ML"), "middle": (6.5, 2, "ML"), "down": (2.0, 4, "ML"), "ramp": (7.0, 1, "OR"), "low ramp": (5.0, 1, "OR"), "last ramp": (1.5, 1, "OR")}
 """By the name: km, lanes and type. The road is driven from km 9 to km 2."""

@@ -7,12 +7,13 @@ import unittest
 from checked import Checked
 from delay_recipe import ALWAYS, Edits, PLAN, close_cell
 from zegdrut import Plan, RoadLab
-from zegdrut.figures.delay_by_car import Delay, Entered, Entries, Group, compare_delays, to_vehicle_hours
-from zegdrut.figures.lost_demand import compute_demands, compute_supplies
+from zegdrut.figures import Trips, Window, compare_delays, compute_demands, to_vehicle_hours
+from zegdrut.figures.delay_by_car import Delay, Entered, Entries, Group
+from zegdrut.figures.lost_demand import compute_supplies
 from zegdrut.figures.queues import read_roads, run_day
-from zegdrut.figures.trips import CHECKPOINT, Trips, Window
-from zegdrut.program.scripts import Script
-from zegdrut.roads.demand import count_demand
+from zegdrut.figures.trips import CHECKPOINT
+from zegdrut.program import Script
+from zegdrut.roads import count_demand
 
 NONE = Group(0, 0, 0, None)
 

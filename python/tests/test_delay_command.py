@@ -14,10 +14,8 @@ from pathlib import Path
 from checked import Checked
 from delay_recipe import ALWAYS, Edits, PLAN, close_cell
 from zegdrut import Fault, Plan, Refused, RoadLab
-from zegdrut.figures.days import run_over_days
-from zegdrut.figures.table import Mean
-from zegdrut.figures.trips import Trips
-from zegdrut.program.scripts import Script, read_script
+from zegdrut.figures import Mean, Trips, run_over_days
+from zegdrut.program import Script, read_script
 
 RECIPE = Path(__file__).resolve().parents[2] / "recipes" / "delay"
 ONE = [("inflow", 0, 0, 0), ("inflow", 0, 2, ALWAYS), ("inflow", 0, 3, 0)]

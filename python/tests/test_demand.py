@@ -10,7 +10,8 @@ import unittest
 from checked import Checked
 from measured_recipe import ALWAYS
 from zegdrut import Plan, RoadLab
-from zegdrut.figures.trips import Trips, Window, count_admitted_cars, count_detector
+from zegdrut.figures import Trips, Window, count_admitted_cars
+from zegdrut.figures.trips import count_detector
 from zegdrut.roads.demand import (
     BeyondCapacity, Drivers, Inlet, QUICK, Supply, convert_demands, count_admitted, count_demand, measure_admission)
 

@@ -10,8 +10,8 @@ from pathlib import Path
 from checked import Checked
 from zegdrut.base.errors import Fault
 from zegdrut.commands import measured as measured_command
+from zegdrut.measurements import Station
 from zegdrut.measurements.counts_on_road import Series, cut_at_exit
-from zegdrut.measurements.stations import Station
 
 
 class Doubts(Checked):

@@ -49,14 +49,13 @@ import sys
 from concurrent.futures import ProcessPoolExecutor
 from pathlib import Path
 from zegdrut.commands.calibrate import read_arguments
-from zegdrut.commands.freeway import FIGURES
 from zegdrut.commands.measured import read_days
 from zegdrut.commands.metering import make_site, read_control, run_days
-from zegdrut.figures.days import run_over_days
-from zegdrut.figures.trips import Window
-from zegdrut.measurements.calibration import Bounds, Search, calibrate
-from zegdrut.program.scripts import read_script
-from zegdrut.reports.report_tables import Side, run_sides
+from zegdrut.figures import Window, run_over_days
+from zegdrut.measurements import Bounds, Search, calibrate
+from zegdrut.program import read_script
+from zegdrut.reports import Side, run_sides
+from zegdrut.roads import FIGURES
 
 STEPS = 1_200
 Path("road.json").write_text('{"length": 1.5, "limit": 135, "slowing": 0.1, "begin": "06:30", "minutes": 20, "main": 900, "ramps": [[0.7, 100]],'

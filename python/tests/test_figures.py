@@ -10,11 +10,10 @@ from typing import Callable, Sequence
 from zegdrut import Car, Fault, Plan, RoadLab
 from zegdrut.figures import (FREEWAY, Figure, Mean, Of, RoadRun, Value, choose, compare, compare_roads, list_figures, list_means, measure_day,
                              measure_roads, read_run, simulate_days)
-from zegdrut.figures import days as figures_of_days
+from zegdrut.figures import Window, days as figures_of_days
 from zegdrut.figures.queues import Ends, Waits, average_lost, compare_ends, with_lost
 from zegdrut.figures.table import SHOWN
-from zegdrut.figures.trips import Window
-from zegdrut.roads.demand import Drivers
+from zegdrut.roads import Drivers
 
 DETECTORS = [20, 60, 90]
 INLETS = [40, 0, 70]

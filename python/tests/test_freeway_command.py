@@ -19,9 +19,8 @@ from checked import Checked
 from freeway_recipe import PLAIN
 from zegdrut import Plan, RoadLab
 from zegdrut.commands import freeway as run
-from zegdrut.roads.demand import Supply
+from zegdrut.roads import Section, Stalled, Supply
 from zegdrut.roads.inflow_chances import count_entries, measure_inflow
-from zegdrut.roads.road_in_cells import Section, Stalled
 
 RECIPE = Path(__file__).resolve().parents[2] / "recipes" / "freeway"
 SHORT = dataclasses.replace(PLAIN, length=1, main=600, ramps=[], detectors=[0.75], stretch=(0.3, 0.6), piece=2, minutes=4)

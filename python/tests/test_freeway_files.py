@@ -8,8 +8,8 @@ import unittest
 from pathlib import Path
 
 from freeway_recipe import FreewayChecks, PLAIN
-from zegdrut.roads.demand import count_demand
-from zegdrut.roads.road_in_cells import Fault, Figures, Section, Stalled, describe_changes, make_road
+from zegdrut.roads import Figures, Section, Stalled, count_demand, make_road
+from zegdrut.roads.road_in_cells import Fault, describe_changes
 
 NONE = '"ramps": [], "sections": []'
 FIELDS = ("length limit slowing main ramps sections stalled detectors stretch piece minutes seed zone begin date timezone start entry "

@@ -13,16 +13,16 @@ from types import SimpleNamespace
 from measured_recipe import MeasuredChecks, drive, passed
 from zegdrut import RoadLab
 from zegdrut.commands import measured as measured_command
-from zegdrut.commands.freeway import FIGURES
+from zegdrut.roads import FIGURES
 from zegdrut.measurements.congestion import (
     JudgedDay, Judgement, SpeedOff, average_speeds, compare_leaving, compare_time_lost, compare_travel_times,
     describe_congested_demand, describe_jams, describe_lost, find_jams, find_states, judge, list_segments,
     simulate_segments)
-from zegdrut.measurements.counts_on_road import Measured, Series, put_on_road
-from zegdrut.measurements.goodness_of_fit import make_model, simulate_day
-from zegdrut.measurements.stations import Station, read_counts
+from zegdrut.measurements import Measured, Station, make_model, put_on_road, read_counts
+from zegdrut.measurements.counts_on_road import Series
+from zegdrut.measurements.goodness_of_fit import simulate_day
+from zegdrut.roads import Clock
 from zegdrut.roads.calibrated import Leaving, describe_leaving
-from zegdrut.roads.clock import Clock
 from zegdrut.roads.demand import QUICK
 from zegdrut.roads.road_scripts import make_base_edits, make_commands, make_plan
 

@@ -23,17 +23,17 @@ from measured_recipe import MeasuredChecks, passed
 from zegdrut import RoadLab
 from zegdrut.base.errors import Fault
 from zegdrut.commands import calibrate, measured as measured_command
-from zegdrut.commands.freeway import FIGURES
 from zegdrut.commands.measured import draw_space_time, format_shares, format_speeds, make_measured_field
-from zegdrut.measurements import calibration
+from zegdrut.measurements import Measured, calibration, put_on_road
 from zegdrut.measurements.calibration import Calibration, Point, Trial
-from zegdrut.measurements.counts_on_road import Measured, Series, put_on_road
+from zegdrut.measurements.counts_on_road import Series
+from zegdrut.roads import FIGURES
 from zegdrut.measurements.goodness_of_fit import (
     compare_hours, compare_speeds, compute_speed, list_left_out, make_model, simulate_days)
-from zegdrut.measurements.stations import Station, read_counts, read_stations
+from zegdrut.measurements import Station, read_counts, read_stations
 from zegdrut.program import programs
+from zegdrut.roads import Clock
 from zegdrut.roads.calibrated import Leaving
-from zegdrut.roads.clock import Clock
 from zegdrut.roads.demand import QUICK
 from zegdrut.roads.freeway_files import write_road
 from zegdrut.roads.road_scripts import make_base_edits, make_commands, make_plan

@@ -7,9 +7,8 @@ import io
 import math
 import unittest
 
-from zegdrut.commands.freeway import FIGURES
 from zegdrut.commands.metering import Control, compare_runs, count_last_cars, explain_queues, make_site, open_day, run_days, run_metered
-from zegdrut.roads.demand import count_demand
+from zegdrut.roads import FIGURES, count_demand
 
 RAMP = 400
 SMALL = dataclasses.replace(FIGURES, length=2, slowing=0.2, start=0.2, main=600, ramps=[(1.2, RAMP)], sections=[], stalled=[], detectors=[],

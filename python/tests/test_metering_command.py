@@ -19,17 +19,16 @@ from pathlib import Path
 
 from checked import Checked
 from zegdrut import Plan, RoadLab
-from zegdrut.commands.freeway import FIGURES
+from zegdrut.roads import FIGURES
 from zegdrut.commands.metering import (
     Control, Metered, Site, compare_runs, explain_queues, make_site, open_day, run_again, run_metered)
 from zegdrut.commands.report import Request, make_sides
-from zegdrut.figures.table import measure_day
-from zegdrut.measurements.counts_on_road import Measured, Series
-from zegdrut.measurements.goodness_of_fit import make_model
-from zegdrut.measurements.stations import Station
-from zegdrut.roads.control import Controller, View, run_control
+from zegdrut.figures import measure_day
+from zegdrut.measurements import Measured, Station, make_model
+from zegdrut.measurements.counts_on_road import Series
+from zegdrut.roads import Controller, View, make_road, run_control
 from zegdrut.roads.demand import QUICK
-from zegdrut.roads.road_in_cells import make_road, widen_inlet
+from zegdrut.roads.road_in_cells import widen_inlet
 from zegdrut.roads.road_scripts import make_plan
 
 RECIPE = Path(__file__).resolve().parents[2] / "recipes" / "metering"

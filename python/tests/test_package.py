@@ -1,7 +1,9 @@
 """Test that the package is installed by pip without a network, has types, and runs with Debian's python3."""
 from __future__ import annotations
 
+import importlib
 import os
+import re
 import shutil
 import subprocess
 import sys
@@ -111,6 +113,25 @@ class Package(unittest.TestCase):
         self.assertIn('Revealed type is "builtins.str"', ran.stdout)
         self.assertIn("model.py:4: error: Argument 2", ran.stdout)
         self.assertNotIn("model.py:5", ran.stdout)
+
+    def test_public_names(self) -> None:
+        """Compare the lists of public names with the page, and require that whoever uses such a name takes it from where the page says."""
+        page = (TOP / "README.md").read_text(encoding="utf-8").partition("## Public names")[2].partition("\n## ")[0]
+        shown = {name: re.findall(r"`(\w+)`", text) for name, text in re.findall(r"^- \*\*`([\w.]+)`\*\* \([^)]*\):(.*?)(?=^- |^$)", page, re.M | re.S)}
+        rooms = {name: importlib.import_module(name) for name in shown}
+        packages = {path.parent.name for path in (TOP / "zegdrut").glob("*/__init__.py")}
+        self.assertEqual({name.removeprefix("zegdrut").removeprefix(".") for name in shown}, packages - {"commands"} | {""})
+        self.assertEqual(shown, {name: sorted(room.__all__) for name, room in rooms.items()})
+        for room in rooms.values():
+            self.assertTrue(all(hasattr(room, name) for name in room.__all__))
+        top = TOP.parent
+        users = [path for folder in ("live", "recipes", "bench") for path in (top / folder).rglob("*")
+                 if path.is_file() and path.suffix in ("", ".py", ".md") and ".mypy_cache" not in path.parts]
+        self.assertGreater(len(users), 100)
+        for path in [*users, TOP / "README.md", top / "README.md"]:
+            for module, names in re.findall(r"^ *from (zegdrut\.\w+)\.\w+ import \(?([^)\n#]+)", path.read_text(encoding="utf-8", errors="replace"), re.M):
+                public = set(re.findall(r"\w+", names)) & set(shown.get(module, ()))
+                self.assertFalse(public, f"{path.relative_to(top)} takes {public} from a module: take it from {module}")
 
     def test_help(self) -> None:
         for command in COMMANDS:

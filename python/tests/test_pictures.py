@@ -13,7 +13,7 @@ from test_page import TOP, find_python
 from zegdrut.base.progress_bars import Bar
 from zegdrut.base.units import format_fixed
 from zegdrut.reports.pictures import Chart, Line, draw_field
-from zegdrut.roads.clock import Clock
+from zegdrut.roads import Clock
 
 HOUR = 3_600
 

@@ -14,10 +14,9 @@ from pathlib import Path
 
 from report_recipe import ROAD, ReportChecks
 from zegdrut import RoadLab
-from zegdrut.commands.freeway import FIGURES
-from zegdrut.program.scripts import Script
-from zegdrut.roads.road_in_cells import make_all_roads, measure_chances
-from zegdrut.roads.road_scripts import make_script
+from zegdrut.program import Script
+from zegdrut.roads import FIGURES, make_script, measure_chances
+from zegdrut.roads.road_in_cells import make_all_roads
 
 RECIPE = Path(__file__).resolve().parents[2] / "recipes" / "report"
 EARLIER = {**ROAD, "begin": "06:55", "minutes": 25, "main": [["06:55", 900], ["07:10", 1_300]]}

@@ -11,10 +11,9 @@ import unittest
 from pathlib import Path
 
 from report_recipe import ROAD, ReportChecks
-from zegdrut.commands.freeway import FIGURES
 from zegdrut.commands.report import compare_works
+from zegdrut.roads import FIGURES, Section, Stalled
 from zegdrut.roads.calibrated import Calibrated, Leaving
-from zegdrut.roads.freeway_files import Section, Stalled
 
 RECIPE = Path(__file__).resolve().parents[2] / "recipes" / "report"
 

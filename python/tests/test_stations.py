@@ -9,12 +9,11 @@ from pathlib import Path
 
 from checked import Checked
 from zegdrut.base.errors import Fault
-from zegdrut.commands.freeway import FIGURES
+from zegdrut.measurements import Station, compute_geh, correct_counts, put_on_road, read_counts
 from zegdrut.measurements.calibration import is_congested
-from zegdrut.measurements.counts_on_road import make_rates, note_interpolated, put_on_road
-from zegdrut.measurements.goodness_of_fit import compute_geh, spread_excess, with_stations
-from zegdrut.measurements.stations import Station, correct_counts, read_counts
-from zegdrut.roads.clock import Clock
+from zegdrut.measurements.counts_on_road import make_rates, note_interpolated
+from zegdrut.measurements.goodness_of_fit import spread_excess, with_stations
+from zegdrut.roads import Clock, FIGURES
 
 
 class Stations(Checked):

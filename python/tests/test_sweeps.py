@@ -20,9 +20,9 @@ from test_page import TOP, find_python
 from zegdrut import Fault, NoProgram, Plan, RoadLab
 from zegdrut.base.progress_bars import format_duration
 from zegdrut.commands.sweep import read_seeds, read_values
-from zegdrut.sweeps import Failure, Flows, make_grid, sweep
+from zegdrut.sweeps import Failure, Flows, Row, make_grid, sweep
 from zegdrut.sweeps.pool import run_in_parallel
-from zegdrut.sweeps.results import Results, Row, read_rows, parse_cell, format_cell
+from zegdrut.sweeps.results import Results, read_rows, parse_cell, format_cell
 
 MODEL = '''
 import os, time

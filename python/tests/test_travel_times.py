@@ -9,16 +9,15 @@ from types import SimpleNamespace
 from measured_recipe import MeasuredChecks, drive
 from zegdrut import RoadLab
 from zegdrut.commands import measured as measured_command
-from zegdrut.commands.freeway import FIGURES
+from zegdrut.roads import FIGURES
 from zegdrut.measurements.congestion import (
     JudgedDay, Segment, compare_time_lost, compare_travel_times, follow_car, list_segments, simulate_segments)
-from zegdrut.measurements.counts_on_road import Measured, Series
-from zegdrut.measurements.goodness_of_fit import Passed, make_model
-from zegdrut.measurements.stations import Station
+from zegdrut.measurements import Measured, Station, make_model
+from zegdrut.measurements.counts_on_road import Series
+from zegdrut.measurements.goodness_of_fit import Passed
 from zegdrut.program.road_rows import Sums
-from zegdrut.roads.clock import Clock
+from zegdrut.roads import Clock, Stalled
 from zegdrut.roads.demand import QUICK
-from zegdrut.roads.freeway_files import Stalled
 from zegdrut.roads.road_scripts import make_base_edits, make_commands, make_plan
 
 

@@ -6,15 +6,15 @@ import unittest
 
 from zegdrut import Plan, RoadLab
 from zegdrut.base.wire import Fields
-from zegdrut.commands.freeway import FIGURES
-from zegdrut.figures import RoadRun, read_run
+from zegdrut.figures import RoadRun, Trips, Window, read_run
 from zegdrut.figures.queues import Ends, Waits, explain_end, explain_outflow
-from zegdrut.figures.trips import Trips, Window, compute_delay
+from zegdrut.figures.trips import compute_delay
 from zegdrut.figures.waiting import Queue, find_arrivals, find_narrow_zone, let_wait, make_waiting_roads, name_by_arrival
-from zegdrut.program.scripts import Script
-from zegdrut.reports.report_tables import Side, make_table, run_side
+from zegdrut.program import Script
+from zegdrut.reports import Side
+from zegdrut.reports.report_tables import make_table, run_side
+from zegdrut.roads import Drivers, FIGURES
 from zegdrut.roads.capacity import measure_outflow
-from zegdrut.roads.demand import Drivers
 
 LAST, ALWAYS = 2_400, 65_536
 CHANCE = 18_000

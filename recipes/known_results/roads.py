@@ -7,7 +7,7 @@ import functools
 from pathlib import Path
 
 from zegdrut import Fault, Plan, RoadLab
-from zegdrut.program.road_rows import count_cars
+from zegdrut.program import count_cars
 
 ALWAYS = 65_536
 AT_ONCE = 1 << 20

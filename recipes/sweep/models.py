@@ -8,7 +8,7 @@ cars per cell. Chances are in 1/65,536.
 from __future__ import annotations
 
 from zegdrut import Fault, Plan, RoadLab, measure_traffic
-from zegdrut.program.road_rows import count_cars
+from zegdrut.program import count_cars
 
 ALWAYS = 65_536
 QUARTER = ALWAYS // 4

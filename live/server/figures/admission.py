@@ -11,9 +11,10 @@ from pathlib import Path
 from typing import Iterator, Mapping, Sequence, TypedDict, cast
 
 from zegdrut import Fault
-from zegdrut.base.units import ALWAYS, KMH
-from zegdrut.roads.capacity import find_capacity
-from zegdrut.roads.demand import Drivers, Effort, Inlet, measure_admission
+from zegdrut.base import KMH
+from zegdrut.base.units import ALWAYS
+from zegdrut.roads import Drivers, Inlet, find_capacity, measure_admission
+from zegdrut.roads.demand import Effort
 
 from ..base.json_values import to_json
 from ..model.operations import Capacity

@@ -11,11 +11,10 @@ from typing import Awaitable, Callable, Iterator, NamedTuple, Sequence, TypedDic
 
 from zegdrut.base.child_processes import end_with_parent
 from zegdrut.base.intervals import warn_few_days
-from zegdrut.figures import Value, compare_roads, measure_roads
+from zegdrut.figures import Value, Window, compare_roads, measure_roads
 from zegdrut.figures.days import SEEDS
 from zegdrut.figures.queues import Ends
 from zegdrut.figures.simulation import iterate_days
-from zegdrut.figures.trips import Window
 from zegdrut.reports.report_tables import run_side
 
 from ..base.refusals import Refused

@@ -12,17 +12,16 @@ from collections import OrderedDict
 from typing import Iterator, Mapping, Sequence, TypedDict
 
 from zegdrut import Edit, RoadLab
-from zegdrut.base.units import METRES, Units
+from zegdrut.base import METRES, Units
 from zegdrut.base.wire import CountReply, Fields, PlanLine, WrittenEdit
-from zegdrut.figures import Figure, FigureRow, Mean as FigureMean, RoadRun, compare_roads, list_means, measure_roads
-from zegdrut.figures.lost_demand import AskedRates, compute_demands
+from zegdrut.figures import Figure, FigureRow, Mean as FigureMean, RoadRun, Trips, Window, compare_roads, compute_demands, list_means, measure_roads, pair_roads, read_counts
+from zegdrut.figures.lost_demand import AskedRates
 from zegdrut.figures.queues import NOBODY_WAITS, Ends, average_ends, compare_ends, is_of_free_road, is_shown, with_bounds, with_lost
-from zegdrut.figures.simulation import read_counts
-from zegdrut.figures.table import list_shown, pair_roads
-from zegdrut.figures.trips import DetectorCount, Trips, Window, compute_travel_times_by_entry, count_seconds_on
+from zegdrut.figures.table import list_shown
+from zegdrut.figures.trips import DetectorCount, compute_travel_times_by_entry, count_seconds_on
 from zegdrut.figures.waiting import find_arrivals
-from zegdrut.program.scripts import Script
-from zegdrut.reports.report_tables import Side
+from zegdrut.program import Script
+from zegdrut.reports import Side
 
 from ..model.projection import Edits
 from ..program.program import import_lines

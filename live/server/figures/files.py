@@ -6,10 +6,10 @@ import io
 import time
 from typing import Callable, Iterable, Iterator, Mapping, Sequence
 
-from zegdrut.base.units import Units
+from zegdrut.base import Units
 from zegdrut.base.wire import PlanLine, WrittenEdit
-from zegdrut.figures.trips import Window
-from zegdrut.roads.clock import Clock
+from zegdrut.figures import Window
+from zegdrut.roads import Clock
 
 from ..base.json_values import to_json
 from ..base.refusals import Refused

@@ -8,14 +8,15 @@ import math
 import time
 from typing import Iterator, Sequence, TypedDict
 
-from zegdrut.base.units import ALWAYS, KMH, Units, count_things
+from zegdrut.base import KMH, Units
+from zegdrut.base.units import ALWAYS, count_things
 from zegdrut.base.wire import PlanLine
+from zegdrut.figures import Window
 from zegdrut.figures.days import SEEDS
-from zegdrut.figures.trips import Window
+from zegdrut.reports import Side, make_tables, run_sides
 from zegdrut.reports.report_page import Contents, describe_approach, describe_capacities, draw_demands, format_page
-from zegdrut.reports.report_tables import Side, make_tables, run_sides
+from zegdrut.roads import Clock
 from zegdrut.roads.calibrated import describe_calibration, describe_queues, read_calibration
-from zegdrut.roads.clock import Clock
 from zegdrut.roads.demand import Rates
 from zegdrut.sweeps.pool import count_processors
 

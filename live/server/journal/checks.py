@@ -7,8 +7,8 @@ from ..model.operations import CAPACITY, SEATS, Operation
 from ..model.reading import Malformed, read_operation
 
 from zegdrut.base.wire import PlanLine
+from zegdrut.program import Reasons
 from zegdrut.program.grammar import KINDS, LAST_STEP
-from zegdrut.program.refusal_reasons import Reasons
 
 
 class Checks:

@@ -12,7 +12,7 @@ import dataclasses
 from dataclasses import dataclass
 from typing import TYPE_CHECKING, Callable, ClassVar, Mapping, Sequence, TypeVar, cast
 
-from zegdrut.base.units import METRES, Units
+from zegdrut.base import METRES, Units
 from zegdrut.base.wire import PlanLine
 from zegdrut.program.grammar import PLAN, check_fields
 

@@ -13,7 +13,7 @@ from __future__ import annotations
 import asyncio
 from typing import Iterable, Iterator, Mapping, Sequence
 
-from zegdrut.base.units import METRES, Units
+from zegdrut.base import METRES, Units
 from zegdrut.base.wire import PlanLine
 
 from ..base.journal_lines import CorruptJournal

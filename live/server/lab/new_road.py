@@ -10,10 +10,9 @@ from dataclasses import dataclass, field
 from pathlib import Path
 from typing import Iterator, Mapping, NotRequired, Sequence, TypedDict, cast
 
-from zegdrut.base.units import to_steps
+from zegdrut.base import to_steps
 from zegdrut.base.wire import PlanLine
-from zegdrut.commands.freeway import FIGURES
-from zegdrut.roads.clock import Clock
+from zegdrut.roads import Clock, FIGURES
 from zegdrut.roads.demand import find_rate
 
 from ..base.journal_lines import CannotStart

@@ -17,7 +17,7 @@ from pathlib import Path
 from typing import Dict, Mapping, Sequence
 
 from zegdrut.base.wire import WrittenEdit
-from zegdrut.program.refusal_reasons import Reasons
+from zegdrut.program import Reasons
 
 from ..base.json_values import to_json
 from ..base.refusals import Refused

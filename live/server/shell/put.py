@@ -12,9 +12,9 @@ import math
 from dataclasses import dataclass
 from typing import TYPE_CHECKING, Sequence, TypedDict
 
-from zegdrut.base.units import KMH, Units, to_cells, to_chance, to_limit, to_steps
+from zegdrut.base import KMH, Units, to_cells, to_chance, to_limit, to_steps
 from zegdrut.base.wire import PlanLine, WrittenEdit
-from zegdrut.roads.clock import Clock, InvalidTime
+from zegdrut.roads import Clock, InvalidTime
 
 from ..model.operations import CAPACITY, Shape
 

@@ -13,9 +13,9 @@ import sqlite3
 from pathlib import Path
 from typing import Iterator, Mapping, NamedTuple, Sequence
 
-from zegdrut.base.units import KMH, Units
+from zegdrut.base import KMH, Units
 from zegdrut.base.wire import PlanLine
-from zegdrut.roads.clock import Clock
+from zegdrut.roads import Clock
 
 from ..base.journal_lines import JOURNAL, CannotStart, Entries
 from ..base.json_values import to_json, Json

@@ -7,14 +7,14 @@ import time
 from typing import Mapping, Sequence, TypeVar, Union
 
 from zegdrut import Edit
-from zegdrut.base.units import Units
+from zegdrut.base import Units
 from zegdrut.base.wire import WrittenEdit
+from zegdrut.figures import Window
 from zegdrut.figures.lost_demand import find_entry
 from zegdrut.figures.table import PER_LANE
-from zegdrut.figures.trips import Window
+from zegdrut.program import count_cars
 from zegdrut.program.grammar import LAST_HORIZON
-from zegdrut.program.road_rows import count_cars
-from zegdrut.roads.clock import Clock
+from zegdrut.roads import Clock
 from zegdrut.roads.road_in_cells import leave_out_approach
 
 from ..base.json_values import to_json, Json

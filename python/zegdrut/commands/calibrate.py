@@ -31,7 +31,6 @@ from typing import NamedTuple, Sequence
 
 from ..base.errors import Fault, LabError, describe_error
 from ..base.progress_bars import Bar
-from ..base.units import count_things
 from ..measurements.calibration import (DELAY_UNCERTAINTY, NAMES, TERMS, TOTAL_UNCERTAINTY, Alternatives, Bounds, Calibration, MeasuredDay, Misfit,
                                         Point, Search, Trial, apply_point, calibrate, find_alternatives, find_chance, is_congested, list_limits,
                                         make_calibrated)
@@ -43,9 +42,8 @@ from ..reports.outputs import prepare_folder
 from ..reports.pictures import draw_points, stack_drawings
 from ..roads.calibrated import CHANCE_ERROR, MOST_ERROR, Alternative, Calibrated, Leaving
 from ..roads.demand import BeyondCapacity
-from ..roads.freeway_files import write_road
+from ..roads.freeway_files import FIGURES, write_road
 from ..roads.road_in_cells import Figures, make_road, measure_chances
-from .freeway import FIGURES
 from .measured import (DAYS, Congestion, add_congestion_argument, add_data_arguments, check_congested, format_shares, print_lines, read_days,
                        report_progress)
 from .sweep import add_dask_options, open_executor

@@ -44,25 +44,13 @@ from ..program.lab import RoadLab
 from ..program.scripts import Script
 from ..reports.outputs import prepare_folder, with_title, write_lines
 from ..roads.demand import Inlet, Supply, count_admitted, count_demand, find_rate
+from ..roads.freeway_files import FIGURES
 from ..roads.inflow_chances import run_script
 from ..roads.road_in_cells import (
-    Fault, Figures, Road, Section, find_changes, describe_changes, list_free_cells, make_road, make_shapes,
-    measure_chances, postpone, widen_inlet, widen_inlets, with_lead)
+    Figures, Road, find_changes, describe_changes, list_free_cells, make_road, make_shapes, measure_chances, postpone,
+    widen_inlet, widen_inlets, with_lead)
 from ..roads.road_scripts import Chances, make_commands, make_plan, make_script
 
-FIGURES = Figures(
-    length=3, limit=130,            # km; km/h, rounded to 27, 54, 81, 108 or 135
-    slowing=0.1,                    # the share of drivers who slow down in a step
-    main=1_200,                     # cars per hour at km 0
-    ramps=[(0.75, 250)],            # for each ramp its km and cars per hour
-    # The works, and a lower limit before them: from km to km, from minute to minute.
-    sections=[Section(2.25, 2.625, 20, 30, limit=54, slowing=0.5), Section(1.875, 2.25, 18, 30, limit=80)],
-    stalled=[],                     # Stalled(km, from minute, to minute) for each car
-    detectors=[0.375, 1.5, 2.1, 2.7],
-    stretch=(1.2, 1.8), piece=5,    # from km to km; the period in minutes
-    minutes=60, seed=1,             # a different seed gives different drivers
-    zone=None,                      # km of a zone; None: the width that fits the sections best
-)
 MOST_ROWS = 1_000
 SHORT = 0.98
 """An inlet that admits less than this share of its demand in the long run is reported."""

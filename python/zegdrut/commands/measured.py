@@ -33,15 +33,14 @@ from ..measurements.congestion import (CONGESTED, DEPARTURE, LONG_INTERVAL, Both
 from ..measurements.counts_on_road import SPACE_MEAN, TIME_MEAN, Measured, put_on_road
 from ..measurements.goodness_of_fit import (
     Day, Hour, Model, compare_hours, compare_speeds, list_left_out, make_model, make_interval_records,
-    compute_total_rmse, compute_share_below, simulate_day, simulate_days, with_measured_demand, with_stations)
+    compute_total_rmse, compute_share_below, simulate_day, with_measured_demand, with_stations)
 from ..measurements.stations import HEADERS, Counts, correct_counts, read_counts, read_stations
 from ..reports.outputs import format_csv, prepare_file, prepare_folder
 from ..reports.pictures import MEASURED, NO_DATA, SIMULATED, Chart, Field, Line, draw_field, draw_scale, stack_drawings, make_speed_field
 from ..roads.calibrated import Leaving, describe_calibration, describe_leaving
 from ..roads.demand import BeyondCapacity
-from ..roads.freeway_files import write_road
+from ..roads.freeway_files import FIGURES, write_road
 from ..roads.road_in_cells import Figures, make_road, widen_inlet
-from .freeway import FIGURES
 
 DAYS = 5
 A_MINUTE = 60

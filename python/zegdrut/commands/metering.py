@@ -46,11 +46,11 @@ from ..reports.outputs import format_window, make_title, prepare_folder, write_c
 from ..roads.clock import InvalidTime
 from ..roads.control import PERIOD, RampMeter, run_control
 from ..roads.demand import Admission, AdmissionByFlow, BeyondCapacity, count_demand, measure_by_flow, find_rate
-from ..roads.freeway_files import check_names
+from ..roads.freeway_files import FIGURES, check_names
 from ..roads.road_in_cells import (
     Figures, Road, list_free_cells, make_all_roads, measure_chances, widen_inlet, with_lead)
 from ..roads.road_scripts import Chances, make_plan, make_script
-from .freeway import FIGURES, report_progress
+from .freeway import report_progress
 from .measured import check_days
 from .sweep import add_dask_options, open_executor
 

@@ -19,12 +19,12 @@ import sys
 from dataclasses import dataclass
 from html import escape
 from pathlib import Path
-from typing import Any, Sequence
+from typing import Sequence
 
 from ..base.errors import Fault, LabError, describe_error
 from ..base.intervals import warn_few_days
 from ..base.progress_bars import Bar
-from ..base.units import HOUR, KMH, count_things, format_distance, to_steps
+from ..base.units import KMH, count_things, format_distance, to_steps
 from ..base.wire import Record
 from ..figures.queues import Waits, explain_outflow
 from ..figures.simulation import RoadRun
@@ -33,9 +33,8 @@ from ..figures.trips import Window
 from ..figures.waiting import make_waiting_roads
 from ..measurements.congestion import list_segments, simulate_segments
 from ..measurements.counts_on_road import TIME_MEAN, Measured
-from ..measurements.goodness_of_fit import Model, compare_hours, list_left_out, make_model
+from ..measurements.goodness_of_fit import Model, compare_hours, make_model
 from ..reports.outputs import format_window, make_title as make_csv_title, prepare_file
-from ..reports.pictures import INLETS, Chart, Line
 from ..reports.report_page import Contents, describe_approach, describe_capacities, draw_demands, format_page, make_list_html
 from ..reports.report_tables import (
     MOST_SIDES, PERIOD, RangeRow, Side, make_flow_series, make_range_records, make_ranges, make_records,
@@ -44,11 +43,11 @@ from ..roads.calibrated import Alternative, compare_delays, describe_calibration
 from ..roads.capacity import LIMIT as WORKS_LIMIT
 from ..roads.clock import Clock
 from ..roads.demand import BeyondCapacity, count_demand, find_rate
-from ..roads.freeway_files import Demand
+from ..roads.freeway_files import FIGURES, Demand
 from ..roads.road_in_cells import (
     Figures, Road, make_all_roads, measure_chances, to_rates, warm_up_minutes, widen_inlets, with_warm_up)
 from ..roads.road_scripts import make_script
-from .freeway import FIGURES, report_progress
+from .freeway import report_progress
 from .measured import (Congestion, add_congestion_argument, add_count_options, add_demand_argument, check_congested, check_days, choose_factor,
                        format_hours, format_shares, format_speeds, make_comparison_charts, make_title, read_data)
 from .sweep import add_dask_options, open_executor

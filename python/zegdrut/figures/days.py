@@ -1,7 +1,7 @@
 """Measure what a change costs over many days. Days differ by chance; both roads of a day have the same drivers.
 
-    from zegdrut.figures.days import run_over_days
-    from zegdrut.program.scripts import read_script
+    from zegdrut.figures import run_over_days
+    from zegdrut.program import read_script
 
     before, after = read_script("before.jsonl"), read_script("after.jsonl")
     for row in run_over_days(before, after, days=20).rows():

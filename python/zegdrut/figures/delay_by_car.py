@@ -1,7 +1,6 @@
 """Measure what a change costs: the delay of cars between two runs of one plan.
 
-    from zegdrut.figures.delay_by_car import compare_delays, to_vehicle_hours
-    from zegdrut.figures.trips import Trips
+    from zegdrut.figures import Trips, compare_delays, to_vehicle_hours
 
     before, after = Trips(lab.plan), Trips(lab.plan)
     before.follow(lab, "A", 3_600)

@@ -295,6 +295,22 @@ class Reader:
         return self.clock.find_step(moment) / 60
 
 
+FIGURES = Figures(
+    length=3, limit=130,            # km; km/h, rounded to 27, 54, 81, 108 or 135
+    slowing=0.1,                    # the share of drivers who slow down in a step
+    main=1_200,                     # cars per hour at km 0
+    ramps=[(0.75, 250)],            # for each ramp its km and cars per hour
+    # The works, and a lower limit before them: from km to km, from minute to minute.
+    sections=[Section(2.25, 2.625, 20, 30, limit=54, slowing=0.5), Section(1.875, 2.25, 18, 30, limit=80)],
+    stalled=[],                     # Stalled(km, from minute, to minute) for each car
+    detectors=[0.375, 1.5, 2.1, 2.7],
+    stretch=(1.2, 1.8), piece=5,    # from km to km; the period in minutes
+    minutes=60, seed=1,             # a different seed gives different drivers
+    zone=None,                      # km of a zone; None: the width that fits the sections best
+)
+"""The road of the example, whose figures a file may leave out."""
+
+
 def cut_profile(pairs: list[tuple[float, float]], minutes: float) -> list[tuple[float, float]]:
     """Return what a profile has in a run of some minutes. The last demand before the run is that of its beginning."""
     early = [cars for minute, cars in pairs if minute <= 0]

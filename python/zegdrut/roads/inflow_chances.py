@@ -7,7 +7,7 @@ from typing import Iterable, Sequence
 
 from ..base.errors import Fault
 from ..base.intervals import Estimate, estimate_mean
-from ..base.units import ALWAYS, HOUR
+from ..base.units import HOUR
 from ..base.wire import Fields, Reply
 from ..program.programs import NoProgram, program_path
 from ..program.refusal_reasons import Reasons
