@@ -92,8 +92,7 @@ def find_folder_beside(serve: ModuleType, folder: Path) -> Path:
     if form in (None, serve.JOURNAL_FORM):
         return folder
     beside = folder.with_name(f"{folder.name}-{serve.JOURNAL_FORM}")
-    print(f"The road in {folder} was kept by another version of live, so it stays as it is: using {beside}. To go on with that road, stop, "
-          f"remove {beside}, and type: live/import_former {folder} {beside}", file=sys.stderr, flush=True)
+    print(f"The road in {folder} was kept by another version of live, so it stays as it is: using {beside}.", file=sys.stderr, flush=True)
     return beside
 
 

@@ -580,7 +580,7 @@ class Acts(Case):
             await self.ada.ask("send", name="shared", stamps=shared)
             self.a6.restart()
             self.ada = await self.enterAsyncContext(self.a6.seat(key=self.ada.key))
-            held = (await self.ada.ask("operations"))["operations"]
+            held: Any = (await self.ada.ask("operations"))["operations"]
             self.assertEqual([tuple(one["stamp"]) for one in held], [tuple(stamp) for stamp in stamps])
 
     async def test_a_withdrawn_line_comes_back_whole_after_a_restart(self) -> None:

@@ -218,7 +218,7 @@ class Roads(Case):
             await ada.ask("send", name="shared")
 
             async def has_come() -> bool:
-                held = (await ben.ask("operations", at="shared"))["operations"]
+                held: Any = (await ben.ask("operations", at="shared"))["operations"]
                 return put["stamp"] in [operation["stamp"] for operation in held]
             await until(has_come, "the change comes")
             self.check_welcome(ben.welcome)

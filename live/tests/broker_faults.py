@@ -421,7 +421,7 @@ class Away(Faults):
             for begin in range(0, count, 500):
                 message = message_of(site, *operations[begin:begin + 500])
                 await asyncio.to_thread(broker.say, message.topic, message.payload.decode())
-            while here.lab.state.shared.size < count or len(site._inbox):
+            while here.lab.state.shared.size < count or site._inbox.behind:
                 states.add(site.state()["state"])
                 behind = max(behind, site.state()["behind"])
                 await asyncio.sleep(0.2)

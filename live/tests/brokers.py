@@ -182,8 +182,9 @@ class Brokers(Case):
             good = written(7, shape=["limit", 4, 4, 9, None, 2], who="Eve", note="by a script", seat=1, shared=False)
             broker.say(topic, said(7, good, {}))
             await self.same(ada, sam, edits=4)  # the valid operations of a message are taken
-            came: dict[str, Any] = {**(await ada.ask("operations", at="shared"))["operations"][-1]}
-            self.assertEqual([came[name] for name in ("who", "note", "seat", "shared")], ["Eve", "by a script", None, True])
+            came: Any = await ada.ask("operations", at="shared")
+            self.assertEqual([came["operations"][-1][name] for name in ("who", "note", "seat", "shared")], ["Eve", "by a script", 1, False])
+            self.assertEqual([came[name][-1] for name in ("makers", "shared")], [None, True])
 
     async def is_told(self, why: str, *seats: Seat) -> bool:
         return all(any(why in sentence for sentence in told(seat)) for seat in seats)

@@ -92,15 +92,15 @@ class Crashes(Case):
                 for key in engineer.sent.keys() - engineer.confirmed.keys():
                     said = await seat.ask("gesture", key=key, shape=engineer.sent[key])
                     engineer.confirmed[key] = said["stamp"]
-                held = {tuple(one["stamp"]): one for one in (await seat.ask("operations"))["operations"]}
-                shared = {tuple(one["stamp"]) for one in (await seat.ask("operations", at="shared"))["operations"]}
+                own: Any = await seat.ask("operations")
+                held = {tuple(one["stamp"]): one for one in own["operations"]}
+                all_shared: Any = await seat.ask("operations", at="shared")
+                shared = {tuple(one["stamp"]) for one in all_shared["operations"]}
                 for key, stamp in engineer.confirmed.items():
                     self.assertEqual(held[tuple(stamp)]["shape"], engineer.sent[key])
-                own = [one for one in held.values() if one.get("seat") == seat.welcome["seat"]]
-                self.assertEqual(len(own), len(engineer.confirmed))
+                self.assertEqual(own["makers"].count(seat.welcome["seat"]), len(engineer.confirmed))
                 self.assertLessEqual(engineer.shared, shared)
-                written: Any = [{name: value for name, value in one.items() if name not in ("shared", "seat")} for one in held.values()]
-                values = ORACLE.painted(map(read_operation, written))
+                values = ORACLE.painted(map(read_operation, held.values()))
                 self.assertEqual(ORACLE.by_the_program(by_rows((await seat.ask("scenario"))["edits"])), values)
 
     def engineers(self) -> list[Engineer]:

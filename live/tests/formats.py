@@ -21,9 +21,9 @@ import running  # noqa: E402
 from oracle import Values, all_edits, by_rows, oracle_of  # noqa: E402
 from painted import LAST, THERE, random_operation  # noqa: E402
 from running import Case, Server  # noqa: E402
-from server.base.journal_lines import journal_line  # noqa: E402
+from server.base.journal_lines import JOURNAL_FORM, journal_line  # noqa: E402
 from server.base.json_values import to_json  # noqa: E402
-from server.journal.entries import JOURNAL_FORM, Arrival, Entry, Folder, Keys, OwnOperation, SeatGrant, Share, Take, read_plan_line, write_entry  # noqa: E402
+from server.journal.entries import Arrival, Entry, Folder, Keys, OwnOperation, SeatGrant, Share, Take, read_plan_line, write_entry  # noqa: E402
 from server.journal.state import Replica, State  # noqa: E402
 from server.model.operations import About, Operation, undo  # noqa: E402
 from server.model.road import Road  # noqa: E402
@@ -177,7 +177,7 @@ class Servers(Case):
             head = {"plan": PLAN, "site": 1, "folder": "f", "form": form}
             (folder / "journal.jsonl").write_bytes(journal_line(to_json({"lab": head}), True))
             before = (folder / "journal.jsonl").read_bytes()
-            with self.assertRaisesRegex(RuntimeError, "live/import_former FOLDER NEW_FOLDER" if form < 5 else "newer server"):
+            with self.assertRaisesRegex(RuntimeError, f"Use the {'older' if form < 5 else 'newer'} server that wrote it"):
                 Server(folder, PLAN)
             self.assertEqual((folder / "journal.jsonl").read_bytes(), before)
             self.assertFalse([one for one in folder.iterdir() if one.name.startswith("journal.") and one.name != "journal.jsonl"])

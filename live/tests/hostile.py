@@ -132,7 +132,23 @@ class Frames(Case):
                 '{"id":1,"ping":NaN}', '{"id":1,"ping":1e999}', '{"id":1,"ping":"\\ud800"}', '{"id":1,"\\udfff":{}}')):
             replies = await self.raw(self.hello(f"f{number}"), frame, '{"id":2,"ping":5}')
             self.assertEqual(replies[1]["refused"], "not a command", frame[:40])
+            self.assertEqual(replies[1].get("id"), 1 if frame.startswith('{"id":1,') else None, frame[:40])
             self.assertEqual(replies[2]["pong"], 5)
+
+    async def test_values_that_are_nested_too_deep_are_refused(self) -> None:
+        """Brackets in texts do not count, and 20 of them are allowed."""
+        deep = "[" * 980 + "]" * 980
+        for number, (verb, fields) in enumerate((("gesture", '"key":"k","note":DEEP,"shape":["limit",2,2,50,null,1]'), ("gesture", '"key":"k","shape":DEEP'),
+                                                 ("send", '"name":"shared","title":DEEP'), ("variant", '"name":DEEP'), ("ping", '"a":"\\"",' + '"b":DEEP'))):
+            frame = f'{{"id":7,"{verb}":{{"at":"seat1",{fields.replace("DEEP", deep)}}}}}'
+            replies = await self.raw(self.hello(f"d{number}"), frame)
+            self.assertEqual((replies[1]["id"], replies[1]["refused"]), (7, "not a command"), verb)
+            self.assertIn("nested more than 20 deep", replies[1]["why"])
+        text = "[{" * 400 + '\\"'
+        for name, said in (("e", f'"{text}"'), ("f", "[" * 19 + "]" * 19)):
+            self.assertIn("pong", (await self.raw(self.hello(name), f'{{"id":2,"ping":{said}}}'))[1])
+        self.assertIn("refused", (await self.raw(self.hello("g"), '{"id":2,"ping":' + "[" * 20 + "]" * 20 + "}"))[1])
+        self.assertNotIn("Traceback", self.a6.said())
 
     async def test_frames_beyond_the_limit_close_the_socket(self) -> None:
         fits = json.dumps({"id": 2, "ping": ""})
@@ -251,7 +267,7 @@ class Long(Case):
             "to": lambda asked: asked.whole("to"), "key": CommandFields.key, "note": lambda asked: asked.text("note", 200)}
         frames = [(f'{{"id":1,"x":{{"{name}":{value}}}}}', read) for name, read in reads.items() for value in wrong]
         for frame, read in frames:
-            with takes_at_most(0.05, frame[:40]), contextlib.suppress(Refused, RecursionError):
+            with takes_at_most(0.05, frame[:40]), contextlib.suppress(Refused, ValueError):  # (of values that are nested too deep)
                 _, verb, fields = parse_frame(frame)
                 read(CommandFields(verb, fields))
 

@@ -98,13 +98,6 @@ class Reading(unittest.TestCase):
                 with self.assertRaisesRegex(CannotStart, "line 2"):
                     read_entries(self.path)
 
-    def test_older_lines_have_no_checksum(self) -> None:
-        old = [line_of(entry, None) for entry in GESTURES[:2]]
-        self.path.write_bytes(b"".join([*old, self.lines[2]]))
-        self.assertEqual(read_entries(self.path), (GESTURES, self.path.stat().st_size))
-        self.path.write_bytes(b"".join([*old, self.lines[2][:-9]]))
-        self.assertEqual(read_entries(self.path), (GESTURES[:2], len(b"".join(old))))
-
     def test_zeros_in_a_write_were_never_confirmed(self) -> None:
         """After a power failure the disk may have some of the blocks of the last write; the others are zeros."""
         whole, last = self.lines[0], line_of(GESTURES[1]) + line_of(GESTURES[2], "and")
@@ -723,19 +716,6 @@ class Names(Case):
         async with Here(here.folder) as again:
             self.assertEqual({one.stamp: one.site for one in again.lab.state.by_stamp.values()}, sites)
 
-    async def test_an_operation_under_anothers_name_is_kept_aside(self) -> None:
-        async with Here() as here:
-            await here.join("Ada")
-            await self.counts(here, 1, 1)
-        path = here.folder / "journal.jsonl"
-        entries = here.entries()
-        entries[-1]["made"]["operation"]["shape"][5] = 2
-        path.write_bytes(b"".join(map(line_of, entries)))
-        async with Here(here.folder) as again:
-            aside, = again.lab.state.unreadable
-            self.assertIn("the hash of its text is", aside.why)
-            self.assertEqual(len(again.lab.state.seats[1].road.layers), 1)
-
     async def test_a_count_is_above_all_that_the_server_holds(self) -> None:
         """Private ones of other seats are among them."""
         async with Here() as here:
@@ -765,21 +745,6 @@ class Names(Case):
                 disk.is_full(False)
                 await here.keeper.wait_until_writable()
                 self.assertEqual(await self.counts(here, 1), [53])
-
-    async def test_a_forgotten_change_that_cannot_be_read_is_forgotten(self) -> None:
-        """The server starts all the same."""
-        async with Here() as here:
-            await here.join("Ada")
-            await here.ask(1, "gesture", key="p", shape=["limit", 2, 2, 50, None, 1])
-            await here.ask(1, "undo", key="u", stamp="p")
-            with mock.patch("server.lab.keeper.MOST_UNDOABLE", 0):
-                here.keeper._forget()
-        path, entries = here.folder / "journal.jsonl", here.entries()
-        made = next(entry["made"] for entry in entries if "made" in entry)
-        made["operation"]["shape"][5] = 2
-        path.write_bytes(b"".join(map(line_of, entries)))
-        async with Here(here.folder) as again:
-            self.assertEqual((again.lab.state.unreadable, again.lab.state.seats[1].own), ([], {}))
 
     async def test_roads_can_be_viewed_when_it_is_time_to_forget_but_the_disk_is_full(self) -> None:
         """Changes are forgotten when the program is replaced."""

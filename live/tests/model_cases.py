@@ -223,6 +223,22 @@ class Cases(unittest.TestCase):
             edits.append(all_edits(other))
         self.assertTrue(all(one == edits[0] for one in edits))
 
+    def test_a_layer_named_by_an_undo_or_an_exclusion_is_none(self) -> None:
+        """In whatever order they arrive. The list shows what sets it as void, and undoing that changes nothing."""
+        lifted = lift(2, LINE, ADA)
+        for base, void in ((exclude(3, "west-00000003", True, ADA), set[Operation]()), (undo(3, lifted, ADA), {lifted})):
+            for hostile in (named(Operation((4, ""), base.stamp, LONGER, about=BEN)), named(Operation((4, ""), base.stamp, top=True, about=BEN))):
+                held = [CLOSURE, lifted, base, hostile]
+                road = in_every_order(held)
+                self.assertNotIn(base.stamp, road.layers)
+                self.assertEqual({one for one in road.operations if not road.operations.counts(one)}, {hostile, *void})
+                self.assertEqual(len([*road.operations]), 4)
+                self.assertIn(hostile, lines.operations_on(road, base.stamp))
+                self.assertEqual(road.operations.flipped_by_undo(hostile), set())
+                again = undo(5, hostile, BEN)
+                self.assertEqual(in_every_order([*held, again]).layers, road.layers)
+                self.assertEqual(in_every_order([*held, again, undo(6, again, BEN)]).layers, road.layers)
+
     def test_a_lost_own_change_stays_private_and_counts_again_when_the_winner_is_undone(self) -> None:
         adas, bens = change(BASE, 2, LINE, WIDE, about=ADA), change(BASE, 3, LINE, LONGER, about=BEN)
         shared = BASE.adding([bens])

@@ -25,6 +25,8 @@ def counting_operations(held: Iterable[Operation]) -> list[Operation]:
     """Return the active operations, the latest first: those of included sites that no active operation undoes. An
     exclusion is undone by its own site alone, excluded or not."""
     down = sorted(held, key=lambda one: one.stamp, reverse=True)
+    no_layers = {one.stamp for one in down if one.line is None}
+    down = [one for one in down if one.line not in no_layers]
     of_exclusions = {one.stamp for one in down if one.excludes is not None}
     size = -1
     while size != len(of_exclusions):

@@ -53,8 +53,7 @@ class Acts(Case):
                 held: Any = (await seat.ask("operations"))["operations"]
                 name = chance.choice("abc")
                 await seat.ask("variant", name=name)
-                self.named[seat.at, name] = [
-                    read_operation({part: value for part, value in one.items() if part not in ("shared", "seat")}) for one in held]
+                self.named[seat.at, name] = [*map(read_operation, held)]
             else:
                 await seat.ask("advance", to=chance.randrange(LAST + 1))
         except RefusedReply as fault:
@@ -144,7 +143,7 @@ class Robots(Acts):
     async def hold_the_same(self, seats: list[Seat]) -> bool:
         """Return whether all sites hold the same operations and nothing is unsent."""
         # One seat of each site
-        held = [{tuple(one["stamp"]) for one in (await seat.ask("operations", at="shared"))["operations"]} for seat in seats[::2]]
+        held = [{str(one["stamp"]) for one in (await seat.ask("operations", at="shared"))["operations"]} for seat in seats[::2]]
         states = [next((one["broker"] for one in reversed(seat.received) if "broker" in one), {"unsent": 1})
                   for seat in seats[::2]]
         return all(one == held[0] for one in held) and not any(one["unsent"] for one in states)

@@ -4,24 +4,29 @@ from __future__ import annotations
 import asyncio
 import contextlib
 import hashlib
+import io
 import json
 import os
+import random
 import re
 import sqlite3
 import subprocess
 import sys
 import time
 import unittest
+from importlib.machinery import SourceFileLoader
 from typing import Any
 from unittest import mock
 
 from oracle import by_rows, oracle_of
-from running import LIVE, PATIENCE, SMALL, Broker, Case, Server, end, new_folder, started
+from brokers import reference
+from faulty import written
+from running import ALL, LIVE, PATIENCE, SMALL, Broker, Case, Server, end, new_folder, patience, started, until
 from server import explain_missing
 from server.figures.admission import Curve
 from server.journal.entries import read_plan_line
 from server.model.reading import read_operation
-from server.shell.put import InvalidWords, find_chance, find_state, read_change
+from server.shell.put import HOW, InvalidWords, find_chance, find_state, read_change
 from works import admits
 from zegdrut.base import METRES, Units
 from zegdrut.base.wire import WrittenEdit
@@ -29,6 +34,10 @@ from zegdrut.roads import Clock
 
 PLAN = read_plan_line(SMALL)
 UNITS = Units(METRES, 1.0)
+ODD = ["", " ", "-", "--", "-1", "0", "00", "1.5", "1,5", "1.5.2", "nan", "NaN", "inf", "-inf", "1e400", "-1e-400", "9" * 20, "9" * 5_000, "-" + "9" * 400,
+       "." * 9, "0x10", "1_000", "\u0663", "\u00bd", "\u00b2", "7:00", "25:99", "7:00:00:00", ":", "9" * 400 + ":00", "1" + "." + "a" * 22, "9" * 5_000 + ".x",
+       "\u202ex", "\udcff", "{}", "[]", "null", '{"gesture":NaN}', '{"gesture":1}', '{"x":{"y":1e999}}', "[" * 3_000, '{"x":' * 3_000,
+       "/", "/nowhere/x", ".", "limit", "x" * 300, "e" + "\u0301" * 63]
 
 
 class Missing(unittest.TestCase):
@@ -156,6 +165,56 @@ class Shell(Case):
         await self.road("cron", "share")
         status, _, why = await self.road("cron", "tell", PATIENCE="1")
         self.assertEqual((status, why.strip()), (1, "1 change has not come back from the broker, which is away"))
+
+    async def test_no_command_ends_in_a_traceback(self) -> None:
+        """Each of them is tried with each odd argument in all places."""
+        script: Any = SourceFileLoader("road_script", str(LIVE / "road")).load_module()  # pylint: disable=deprecated-method, no-value-for-parameter
+        commands = [(verb, most) for verb, (*_, most) in script.ARGUMENTS.items() if most and verb not in ("tell", "clock")] + [("clock", 1)]
+        commands += [(f"put {kind}", 5 if kind in ("capacity", "limit", "slowing", "slow-to-start") else 4) for kind in HOW]
+        for odd in ODD if ALL else random.Random(time.time_ns()).sample(ODD, 12):
+            for verb, count in commands:
+                await self.ends_well(script, "cron", *verb.split(), *[odd] * count)
+            for words in (("mend", odd, odd), ("new-site", odd), (odd, "seats"), ("cron", odd), (odd,)):
+                await self.ends_well(script, *words)
+
+
+    async def ends_well(self, script: Any, *words: str) -> None:
+        """Call the script. It ends by itself, or with a status and a sentence."""
+        def call() -> object:
+            try:
+                asyncio.run(script.main())
+            except SystemExit as ended:
+                return ended.code
+            except Exception as fault:  # pylint: disable=broad-except
+                return fault
+            return 0
+        said = io.StringIO()
+        with mock.patch.object(sys, "argv", ["road", *words]), mock.patch.dict(os.environ, {"LIVE": str(self.a6.folder)}), \
+                contextlib.redirect_stdout(io.StringIO()), contextlib.redirect_stderr(said):
+            status = await asyncio.wait_for(asyncio.to_thread(call), patience(30))
+        self.assertIn(status, (0, 1, 2, 3), [one[:60] for one in words])
+        self.assertEqual(bool(said.getvalue()), status != 0, [one[:60] for one in words])
+
+    async def test_the_export_takes_each_operation_that_a_site_takes(self) -> None:
+        """Also one of the year 36812, and one with fields that are called as those of a table."""
+        late = written(4, shape=["limit", 1, 1, 9, None, 2], when=(1 << 40) - 1, who="Eve")
+        named = written(5, shape=["limit", 2, 2, 9, None, 2], seat="x", shared=7, makers=[1])
+        async def have_come() -> bool:
+            self.here.say(f"road/{reference(self.a6)}/operations", json.dumps({"form": 4, "operations": [late, named]}))
+            return len(json.loads((await self.road("cron", "ask", '{"operations":{"at":"shared"}}'))[1])["operations"]) == 2
+        await until(have_come, "they have come")
+        path = new_folder() / "a.db"
+        self.assertEqual((await self.road("cron", "export", str(path)))[0::2], (0, ""))
+        self.a6.kill()
+        again = new_folder() / "b.db"
+        self.assertEqual((await self.road("cron", "export", str(again)))[0::2], (0, ""))
+        for each in (path, again):
+            with contextlib.closing(sqlite3.connect(each)) as database:
+                rows = database.execute("SELECT made, who, json FROM operations ORDER BY count").fetchall()
+            self.assertEqual([row[:2] for row in rows], [("36812-02-20 00:36:15", "Eve"), (None, "")])
+            self.assertEqual([json.loads(row[2]) for row in rows], [late, named])
+        status, _, why = await self.road("cron", "export", "/nowhere/a.db")
+        self.assertEqual((status, "/nowhere/a.db cannot be written" in why), (1, True))
 
     async def test_a_robot_gets_its_seat_back_from_somebody_who_took_it_over(self) -> None:
         """While that person has it open, the robot gets a sentence of its own."""

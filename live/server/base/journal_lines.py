@@ -1,8 +1,7 @@
 """Read and write the lines of a journal.
 
 A line ends with the checksum of its entry: `crc` in the first line of a write, `and` in the other lines. A write begins only when
-the one before is on the disk. So if a line is malformed and no write begins after it, that line was never confirmed. (Lines of
-older journals have no checksum.)
+the one before is on the disk. So if a line is malformed and no write begins after it, that line was never confirmed.
 """
 from __future__ import annotations
 
@@ -16,6 +15,7 @@ from typing import Iterator, Mapping
 from .json_values import Json
 
 JOURNAL = "journal.jsonl"
+JOURNAL_FORM = 4
 JournalLine = Mapping[str, Mapping[str, Json]]
 """The kind of an entry, and its fields."""
 SUM = 18  # bytes of a checksum at the end of a line
@@ -27,7 +27,11 @@ class CannotStart(Exception):
 
 
 class CorruptJournal(CannotStart):
-    """The journal has a malformed line."""
+    """The journal has a malformed line. `why` says what is wrong with it."""
+
+    def __init__(self, path: Path, number: int, why: str) -> None:
+        super().__init__(f"{path}, line {number}, {why}. A new folder can be made from all other lines: live/road mend {path.parent} NEW_FOLDER")
+        self.why = why
 
 
 def journal_line(text: str, is_first: bool) -> bytes:
@@ -68,7 +72,7 @@ class Entries:
         """Return whether a malformed line belongs to a write that never ended: no write begins in the bytes behind it."""
         *lines, rest = behind.split(b"\n")
         could = [line.rpartition(b"\0")[2], *lines]
-        return bool(rest or b"\0" in line) and not any(is_confirmed_before(self._path, one) for one in could)
+        return bool(rest or b"\0" in line) and not any(map(is_confirmed_before, could))
 
 
 def form_of(folder: Path) -> Json:
@@ -87,26 +91,33 @@ def read_entries(path: Path, size: int | None = None) -> tuple[list[JournalLine]
 
 
 def entry_of(path: Path, number: int, line: bytes) -> JournalLine:
-    """Read an entry; raise `CorruptJournal` if it is malformed, or its checksum differs."""
+    """Read an entry; raise `CorruptJournal` if it is malformed, or its checksum is missing or wrong."""
+    try:
+        fields, mark = parse_line(line)
+        if mark is None and fields.get("lab", {}).get("form", JOURNAL_FORM) == JOURNAL_FORM:  # lines of other forms may have no checksum
+            raise ValueError("it has no checksum")
+        return fields
+    except (ValueError, RecursionError) as fault:
+        raise CorruptJournal(path, number, f"is malformed ({fault}): {line[:60]!r}") from None
+
+
+def parse_line(line: bytes) -> tuple[JournalLine, bytes | None]:
+    """Return the entry of a line, and the name of its checksum, or None if it has none. Raise `ValueError` or `RecursionError` if it is
+    malformed."""
     summed = SUMMED.fullmatch(line[-SUM:])
     text = line[:-SUM] + b"}" if summed else line
-    try:
-        if summed and zlib.crc32(text) != int(summed[2], 16):
-            raise ValueError("its checksum is wrong")
-        entry: Json = json.loads(text)
-    except (ValueError, RecursionError) as fault:
-        raise CorruptJournal(f"{path}, line {number}, is malformed ({fault}): {line[:60]!r}") from None
+    if summed and zlib.crc32(text) != int(summed[2], 16):
+        raise ValueError("its checksum is wrong")
+    entry: Json = json.loads(text)
     fields = {kind: value for kind, value in entry.items() if isinstance(value, dict)} if isinstance(entry, dict) else {}
     if len(fields) != 1 or fields != entry:
-        raise CorruptJournal(f"{path}, line {number}, is not an entry: {line[:60]!r}")
-    return fields
+        raise ValueError("it is not an entry")
+    return fields, summed[1] if summed else None
 
 
-def is_confirmed_before(path: Path, line: bytes) -> bool:
+def is_confirmed_before(line: bytes) -> bool:
     """Return whether this line shows that all lines before it were confirmed: it is well-formed, and the first of a write."""
     try:
-        entry_of(path, 0, line)
-    except CorruptJournal:
+        return parse_line(line)[1] != b"and"
+    except (ValueError, RecursionError):
         return False
-    summed = SUMMED.fullmatch(line[-SUM:])
-    return summed is None or summed[1] == b"crc"

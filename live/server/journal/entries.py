@@ -16,15 +16,14 @@ from zegdrut.base import METRES, Units
 from zegdrut.base.wire import PlanLine
 from zegdrut.program.grammar import PLAN, check_fields
 
-from ..base.journal_lines import CannotStart, JournalLine
+from ..base.journal_lines import JOURNAL_FORM, CannotStart, JournalLine
 from ..base.json_values import Json
 from ..model.operations import SEATS, Operation, Stamp
-from ..model.reading import Malformed, list_of, read_kept_operation, read_row, read_site, read_stamp, read_time, whole
+from ..model.reading import Malformed, list_of, read_operation, read_row, read_site, read_stamp, read_time, whole
 
 if TYPE_CHECKING:
     from .state import State
 
-JOURNAL_FORM = 4
 Fields = Mapping[str, Json]
 J = TypeVar("J", bound="JsonObject")
 
@@ -97,8 +96,7 @@ def read_form(value: Json) -> int:
     """Return the form of a journal. Raise `CannotStart` if this server reads another one."""
     if value != JOURNAL_FORM:
         raise CannotStart(f"the journal has form {value}, and this server reads form {JOURNAL_FORM}. "
-                          + ("Make a new folder from this one: live/import_former FOLDER NEW_FOLDER" if value in (1, 2, 3) else
-                             "Use the newer server that wrote it"))
+                          f"Use the {'older' if value in (1, 2, 3) else 'newer'} server that wrote it, or a new folder")
     return JOURNAL_FORM
 
 
@@ -348,7 +346,7 @@ READERS: Mapping[str, Callable[[Json], object]] = {
     "form": read_form, "plan": read_plan_line, "site": read_site, "origin": PLACE, "lead": STEP,
     "rate": read_number, "now": STEP, "stop": STEP,
     "seat": whole_to(SEATS - 1, "seat"), "name": TEXT, "key": TEXT, "who": TEXT, "title": TEXT, "when": read_time, "upto": PLACE,
-    "size": PLACE, "operation": read_kept_operation, "operations": list_of(read_kept_operation), "stamps": list_of(read_stamp),
+    "size": PLACE, "operation": read_operation, "operations": list_of(read_operation), "stamps": list_of(read_stamp),
     "keys": list_of(read_key), "shares": list_of(News.read), "shared": lambda value: value is True, "unsent": lambda value: value is True}
 """The readers of fields, by their names in the journal."""
 

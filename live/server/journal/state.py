@@ -11,18 +11,18 @@ first ones of the shared road.
 from __future__ import annotations
 
 import asyncio
-from typing import Iterable, Iterator, Mapping, Sequence
+from typing import Callable, Iterable, Iterator, Mapping, Sequence
 
 from zegdrut.base import METRES, Units
 from zegdrut.base.wire import PlanLine
 
-from ..base.journal_lines import CorruptJournal
+from ..base.journal_lines import JOURNAL_FORM
 from ..model.choices import find_forgettable, shareable
 from ..model.lines import all_lines, find_altered_lines, line_of, operations_on
-from ..model.operations import SEATS, Operation, Stamp, Unreadable, intern_int
+from ..model.operations import SEATS, Operation, Stamp, intern_int
 from ..model.reading import Malformed
 from ..model.road import Road
-from .entries import (JOURNAL_FORM, NewsList, Arrival, Clock, Entry, Fields, Folder, Keys, NamedVariant, OwnOperation, News, SeatGrant, Take,
+from .entries import (NewsList, Arrival, Clock, Entry, Fields, Folder, Keys, NamedVariant, OwnOperation, News, SeatGrant, Take,
                       Works, read_entry)
 from .naming import Counter
 
@@ -31,7 +31,6 @@ SITE_FORM = 4  # the protocol of sites
 MOST_NEWS = 100
 MOST_FORGOTTEN_KEYS = 1_000  # keys of a seat whose operations were forgotten
 APPLIED_AT_ONCE = 100  # operations that are applied before others get a turn
-MOST_UNREADABLE = 10  # operations of a journal that cannot be read; with more, the server does not start
 MOST_SHARED_ROADS = 8  # values of the shared road that are kept for seats that take
 
 Variant = tuple[int, Sequence[Stamp]]
@@ -146,7 +145,7 @@ class SharedReplica(Replica):
 
     def operations(self, first: int = 0, end: int | None = None) -> list[Operation]:
         """Return its operations in order of arrival, from place `first` to before `end`, except those that cannot be read."""
-        return [one for one in self._order[first:end] if not isinstance(one, Unreadable)]
+        return self._order[first:end]
 
     def upto(self, size: int) -> Road:
         """Return the road of the first `size` operations."""
@@ -259,7 +258,6 @@ class State:
         self.rate: float = 0
         self.now = 0
         self.stop: int | None = None
-        self.unreadable: list[Unreadable] = []  # operations of the journal that are kept aside
         self.by_stamp: dict[Stamp, Operation] = {}
         self.lately: dict[int, tuple[Road, Road]] = {}  # by seat: the shared road, and the same road with all private operations
         self._counter = counter or Counter()
@@ -274,22 +272,17 @@ class State:
 
     # Entries
 
-    def read(self, entry: Mapping[str, Fields]) -> None:
-        """Apply an entry of a journal; raise `CorruptJournal` if it is malformed."""
+    def read(self, entry: Mapping[str, Fields], change: Callable[[Entry], Entry] = lambda entry: entry) -> None:
+        """Apply an entry of a journal, or what `change` makes of it; raise `Malformed` if it cannot be read."""
         (kind, value), = entry.items()
         try:
-            read_entry(kind, value, self.site).apply(self)
+            change(read_entry(kind, value, self.site)).apply(self)
         except (KeyError, IndexError, TypeError, ValueError, OverflowError) as fault:
             why = str(fault) if isinstance(fault, ValueError) else repr(fault)
-            raise CorruptJournal(f"malformed entry `{kind}`: {why}") from None
+            raise Malformed(f"has a malformed entry `{kind}`: {why}") from None
 
     def intern(self, operation: Operation) -> Operation:
-        """Return the equal operation that is already held, or this one. Note an unreadable one; raise `Malformed` if there are too many."""
-        if isinstance(operation, Unreadable):
-            self.unreadable.append(operation)
-            if len(self.unreadable) > MOST_UNREADABLE:
-                raise Malformed(f"more than {MOST_UNREADABLE} operations cannot be read, of this one {operation.why}")
-            return operation
+        """Return the equal operation that is already held, or this one."""
         self._counter.hold(operation.stamp[0])
         return self.by_stamp.setdefault(operation.stamp, operation)
 
@@ -326,12 +319,11 @@ class State:
         return [one for one in seat.own if one not in self.shared.places]
 
     def has_private(self, seat: SeatReplica) -> bool:
-        """Return whether freeing a seat would lose variants, or changes: private ones that would change the shared road, or that cannot be
-        read."""
-        return bool(seat.variants) or bool(seat.shareable()) or any(isinstance(one, Unreadable) for one in self.private(seat))
+        """Return whether freeing a seat would lose variants, or private changes that would change the shared road."""
+        return bool(seat.variants) or bool(seat.shareable())
 
     def operations_of(self, variant: Variant) -> list[Operation]:
-        """Return the operations that a variant is made of, except those that cannot be read."""
+        """Return the operations that a variant is made of."""
         upto, stamps = variant
         return [*self.shared.operations(0, upto), *(self.by_stamp[one] for one in stamps if one in self.by_stamp)]
 
@@ -351,20 +343,18 @@ class State:
         return [one.stamp for one in private if one in gone]
 
     def forget(self, seat: SeatReplica, stamps: Iterable[Stamp]) -> None:
-        """Drop private operations of a seat, which have no effect. In a journal that is read they may be among those that cannot be read."""
+        """Drop private operations of a seat, which have no effect."""
         wanted = set(stamps)
         gone = [one for one in seat.own if one.stamp in wanted]
         lines = set() if seat.marks is None else {line_of(seat.road, one) for one in gone}
         for operation in gone:
             del seat.own[operation], seat.places[operation], self.makers[operation]
             self.by_stamp.pop(operation.stamp, None)
-        self.unreadable = [one for one in self.unreadable if one not in gone]
         seat.rebuild_without(lines)
 
     def forget_keys(self, seat: SeatReplica) -> None:
         """Drop keys whose operations were forgotten, except the newest."""
-        aside = {one.stamp for one in self.unreadable}
-        gone = [key for key, stamp in seat.done.items() if stamp not in self.by_stamp and stamp not in aside]
+        gone = [key for key, stamp in seat.done.items() if stamp not in self.by_stamp]
         for key in gone[:-MOST_FORGOTTEN_KEYS]:
             del seat.done[key]
 

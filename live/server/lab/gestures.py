@@ -150,10 +150,10 @@ class Lab:
 
     def _find_line(self, seat: SeatReplica, called: StampOrKey) -> Stamp:
         """Return the name of a line of the seat's list. `called` is that name, or an operation that changed the line."""
-        if isinstance(called, tuple) and seat.road.setters_of(called):
-            return called
-        line = line_of(seat.road, self._find_operation(seat, called))
-        if not seat.road.changes_of(line):
+        named = isinstance(called, tuple) and seat.road.setters_of(called)
+        line = called if isinstance(called, tuple) and named else line_of(seat.road, self._find_operation(seat, called))
+        first = seat.road.operations.held.get(line)
+        if not seat.road.changes_of(line) or first is not None and first.line is None:
             raise Refused("NoSuchChange", "this change has no shape: undo it, or include the site again that it excludes")
         return line
 

@@ -17,16 +17,17 @@ from typing import TYPE_CHECKING, Awaitable, Callable, Iterable, Mapping, TypeVa
 
 from zegdrut.program.grammar import LAST_HORIZON
 
-from ..base.journal_lines import JOURNAL, CannotStart, CorruptJournal, Entries, JournalLine
+from ..base.journal_lines import JOURNAL, JOURNAL_FORM, CannotStart, CorruptJournal, Entries, JournalLine
 from ..base.json_values import Json, to_json
 from ..base.listeners import Listeners
 from ..base.refusals import Refused, program_crashed
 from ..base.settings import Settings
 from ..base.supervised import supervise
-from ..journal.entries import JOURNAL_FORM, Clock, Entry, Folder, Forgetting, OwnOperation, read_plan_line, write_entry
+from ..journal.entries import Clock, Entry, Folder, Forgetting, OwnOperation, read_plan_line, write_entry
 from ..journal.journal import Journal, NotWritten, explain_fault
 from ..journal.naming import Counter, new_site
 from ..journal.state import NO_PLAN, State
+from ..model.reading import Malformed
 from ..model.road import Road
 from ..program.program import ProgramExited, Program, Times, command_of, start
 from ..program.simulated_roads import Differences, SimulatedRoads
@@ -149,10 +150,10 @@ class Keeper:
         for number, entry in enumerate(entries, 1):
             try:
                 state.read(entry)
-            except CorruptJournal as fault:
-                raise CorruptJournal(f"{self.folder / 'journal.jsonl'}, line {number}: {fault}") from None
+            except Malformed as fault:
+                raise CorruptJournal(self.folder / JOURNAL, number, str(fault)) from None
         if number and state.plan is NO_PLAN:
-            raise CorruptJournal(f"{self.folder / 'journal.jsonl'} does not begin with a plan")
+            raise CorruptJournal(self.folder / JOURNAL, 1, "has no plan")
         state.shared.prepare()
         return state, number == 0
 
@@ -206,9 +207,6 @@ class Keeper:
         if self._trouble is None and self._is_stalled:
             return (f"the disk has not answered for {STALLS:g} seconds: new changes are pending until it does; confirmed changes "
                     f"can still be viewed")
-        if self._trouble is None and self.state.unreadable:
-            return (f"{len(self.state.unreadable)} changes in the journal cannot be read ({self.state.unreadable[0].why}): they are kept, "
-                    f"but have no effect")
         return self._trouble
 
     async def _watch_disk(self) -> None:

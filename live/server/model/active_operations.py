@@ -1,6 +1,7 @@
 """Decide which operations of a set count.
 
-An operation counts unless an operation that counts undoes it, or its site is excluded. This is decided from the greatest stamp down.
+An operation counts unless an operation that counts undoes it, its site is excluded, or the layer that it sets is named by an undo or an
+exclusion, which puts none. This is decided from the greatest stamp down.
 After new operations, only those decisions are made again that may change. Exclusions are decided first: only their own site can undo
 them, whether it is excluded or not. So no two decisions depend on each other.
 
@@ -25,6 +26,7 @@ class OperationSet:
         self.void: set[Operation] = set()  # operations that are held but do not count
         self.excluded: frozenset[str] = frozenset()  # sites
         self.exclusions: tuple[Operation, ...] = ()  # operations that exclude sites or include them again, the oldest first
+        self._early: dict[Stamp, tuple[Operation, ...]] = {}  # operations that came before the one that names their layer, by its stamp
         self._undos: dict[Stamp, tuple[Operation, ...]] = {}  # undos by the stamp of the operation that they undo
         self._of_exclusions: frozenset[Stamp] = frozenset()  # exclusions, their undos, the undos of these undos, and so on
 
@@ -33,6 +35,7 @@ class OperationSet:
         other = OperationSet()
         other.held, other.void, other.excluded = dict(self.held), set(self.void), self.excluded
         other.exclusions, other._undos, other._of_exclusions = self.exclusions, dict(self._undos), self._of_exclusions
+        other._early = dict(self._early)
         return other
 
     def __contains__(self, operation: Operation) -> bool:
@@ -67,6 +70,9 @@ class OperationSet:
         before = self._of_exclusions
         fresh = {one for one in operations if self._hold(one)}
         waiting = fresh.union(self.held[stamp] for stamp in self._of_exclusions - before)
+        for operation in fresh:
+            early = self._early.pop(operation.stamp, ())
+            waiting |= {*early} if operation.line is None else set()
         flipped = self._settle(sort_by_stamp(waiting))
         if len(fresh) > len(self.void):
             self.void = set(self.void)  # a smaller copy: the set had grown to hold all new operations
@@ -82,6 +88,8 @@ class OperationSet:
             return False
         self.held[operation.stamp] = operation
         self.void.add(operation)
+        if operation.line is not None and operation.line not in self.held:
+            self._early[operation.line] = *self._early.get(operation.line, ()), operation
         if operation.undoes is not None:
             self._undos[operation.undoes] = *self._undos.get(operation.undoes, ()), operation
         if operation.excludes is not None:
@@ -107,6 +115,9 @@ class OperationSet:
         return flipped
 
     def _is_void(self, operation: Operation, flipped: AbstractSet[Operation]) -> bool:
+        named = None if operation.line is None else self.held.get(operation.line)
+        if named is not None and named.line is None:
+            return True
         if operation.stamp in self._of_exclusions:
             return any(other.site == operation.site and self.counts(other, flipped) for other in self.undos_of(operation))
         return operation.site in self.excluded or any(self.counts(other, flipped) for other in self.undos_of(operation))

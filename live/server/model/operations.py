@@ -123,17 +123,6 @@ class Operation:
         return json.dumps({**self.written(), "stamp": self.stamp[0]}, ensure_ascii=False, separators=(",", ":"), sort_keys=True)
 
 
-@dataclass(frozen=True, eq=False, slots=True)
-class Unreadable(Operation):
-    """An operation of a journal that this server cannot read. It keeps its place and its key, and is in no road."""
-
-    value: Mapping[str, Json] = field(default_factory=lambda: NO_MORE)  # as the journal has it
-    why: str = ""
-
-    def written(self) -> dict[str, Json]:
-        return dict(self.value)
-
-
 def name_of(operation: Operation) -> Stamp:
     """Return the stamp of an operation: its count, and the hash of its text. Raise UnicodeEncodeError if the text has a lone surrogate."""
     digest = hashlib.sha256(operation.text().encode()).digest()[:HASH]

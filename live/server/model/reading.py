@@ -12,7 +12,7 @@ import unicodedata
 from typing import Callable, Mapping, Sequence, TypeVar
 
 from ..base.json_values import Json
-from .operations import CAPACITY, NO_MORE, About, Capacity, Operation, Shape, Stamp, Unreadable, intern_int, name_of
+from .operations import CAPACITY, NO_MORE, About, Capacity, Operation, Shape, Stamp, intern_int, name_of
 
 GREATEST_COUNT, GREATEST_VALUE = (1 << 53) - 1, (1 << 32) - 1
 MOST_OBJECTS = 600  # objects of a shape
@@ -98,20 +98,6 @@ def require_whole(value: Json) -> None:
         raise Malformed(f"{value} is not a whole number of at most {GREATEST_COUNT} in size, as all numbers of an operation must be")
     for item in value.values() if isinstance(value, dict) else value if isinstance(value, list) else ():
         require_whole(item)
-
-
-def read_kept_operation(value: Json) -> Operation:
-    """Return the operation of a journal. One that is malformed is kept aside, as an `Unreadable`."""
-    try:
-        return read_operation(value)
-    except Malformed as fault:
-        if not isinstance(value, dict):
-            raise
-        try:
-            stamp = read_stamp(value.get("stamp"))
-        except Malformed:
-            stamp = 0, ""
-        return Unreadable(stamp, value=value, why=str(fault))
 
 
 def read_optional(value: Mapping[str, Json], name: str, read: Callable[[Json], T]) -> T | None:

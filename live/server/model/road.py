@@ -12,7 +12,7 @@ from typing import AbstractSet, Callable, Iterable
 
 from .active_operations import NO_OPERATIONS, OperationSet, insert_in_order
 from .layers import Layer, Stretch, parts_of, sort_from_top, touches
-from .operations import END, NOTHING, About, Operation, Shape, Stamp, Unreadable, lift, named
+from .operations import END, NOTHING, About, Operation, Shape, Stamp, lift, named
 
 Plan = Callable[[str, int], "int | None"]
 """Returns the plan's value of an object, given its kind and index; None for the kind `start`, for which the plan has no value."""
@@ -59,7 +59,7 @@ class Road:
 
     def adding(self, operations: Iterable[Operation]) -> Road:
         """Return the road with these operations added; this road itself if it holds them all."""
-        some = [one for one in operations if one not in self.operations and not isinstance(one, Unreadable)]
+        some = [one for one in operations if one not in self.operations]
         if not some:
             return self
         road = self.copy()

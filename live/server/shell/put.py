@@ -26,6 +26,7 @@ HOW = {"close": "FROM_KM TO_KM BEGIN [END]", "capacity": "CARS_PER_HOUR KMH FROM
        "slow-to-start": "PERCENT FROM_KM TO_KM BEGIN [END]", "demand": "CARS_PER_HOUR INLET_KM BEGIN [END]",
        "detector": "on|off KM BEGIN [END]"}
 KIND_OF_WORD = {"close": "block", "capacity": CAPACITY, "limit": "limit", "slowing": "slow", "slow-to-start": "start", "demand": "inflow", "detector": "watch"}
+LONGEST_NUMBER = 18  # characters of a number of minutes
 
 
 class InvalidWords(ValueError):
@@ -99,6 +100,8 @@ def read_time(text: str, name: str, lead: int, clock: Clock) -> int:
     before the run."""
     if not text.removeprefix("-").replace(".", "", 1).isdecimal():
         return clock.shift(-lead).to_step(text, name)
+    if len(text) > LONGEST_NUMBER:
+        raise InvalidTime(f"{name}: {text[:LONGEST_NUMBER]}.. is not a number of minutes")
     step = lead + to_steps(float(text))
     if step < 0:
         raise InvalidTime(f"{name}: minute {text} is before the run, which begins at minute {0 - lead / 60:g}")

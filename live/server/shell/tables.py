@@ -1,15 +1,15 @@
 """Write the changes of a folder as SQLite tables, for `sqlite3` and pandas. No table has a key, the token or a secret.
 
-    write_tables(path, read_folder(folder))     all changes of a stopped folder
-    write_tables(path, tables)                  what a seat of a running server can see
+    write_tables(path, read_folder(folder)[0])    all changes of a stopped folder
+    write_tables(path, tables)                    what a seat of a running server can see
 """
 from __future__ import annotations
 
 import contextlib
-import datetime
 import json
 import os
 import sqlite3
+import time
 from pathlib import Path
 from typing import Iterator, Mapping, NamedTuple, Sequence
 
@@ -17,11 +17,10 @@ from zegdrut.base import KMH, Units
 from zegdrut.base.wire import PlanLine
 from zegdrut.roads import Clock
 
-from ..base.journal_lines import JOURNAL, CannotStart, Entries
 from ..base.json_values import to_json, Json
-from ..journal.state import NO_PLAN, State
 from ..lab import new_road
-from ..model.operations import Operation, Shape, Stamp, Unreadable, describe_act
+from ..model.operations import Operation, Shape, Stamp, describe_act
+from .mend import read_damaged
 
 Row = tuple["int | float | str | None", ...]
 SCHEMA = """
@@ -58,24 +57,16 @@ class Tables(NamedTuple):
     shares: Sequence[Row]
 
 
-def read_state(folder: Path) -> State:
-    """Return the state of a folder, which no server uses. Raise `CannotStart` if its journal cannot be read."""
-    state = State()
-    for entry in Entries(folder / JOURNAL):
-        state.read(entry)
-    if state.plan is NO_PLAN:
-        raise CannotStart(f"{folder} has no journal: give the folder of a server")
-    return state
-
-
-def read_folder(folder: Path) -> Tables:
-    """Return all changes of a folder, which no server uses. Raise `CannotStart` if its journal cannot be read."""
-    state = read_state(folder)
+def read_folder(folder: Path) -> tuple[Tables, list[str]]:
+    """Return all changes of a folder, which no server uses, and a sentence for each line of its journal that cannot be read. Raise
+    `CannotStart` if there is no plan."""
+    state, left_out = read_damaged(folder)
     held = dict.fromkeys([*state.shared.places, *(one for seat in state.seats for one in seat.own)])
-    operations = [HeldOperation(one, one in state.shared.places, state.makers.get(one)) for one in held if not isinstance(one, Unreadable)]
+    operations = [HeldOperation(one, one in state.shared.places, state.makers.get(one)) for one in held]
     seats = [(seat.index, seat.name, len(seat.shareable())) for seat in state.seats[1:] if seat.key]
-    return Tables(state.plan, state.units, new_road.clock_of(folder) or Clock(), operations, seats,
-                  [share_row(one.reply_fields()) for one in state.shares])
+    tables = Tables(state.plan, state.units, new_road.clock_of(folder) or Clock(), operations, seats,
+                    [share_row(one.reply_fields()) for one in state.shares])
+    return tables, left_out
 
 
 def share_row(share: Mapping[str, Json]) -> Row:
@@ -161,4 +152,4 @@ def utc_text(when: Json) -> str | None:
     """Return a time in seconds since 1970 as a date and time of UTC; None if it is missing."""
     if not isinstance(when, (int, float)) or not when:
         return None
-    return datetime.datetime.fromtimestamp(when, datetime.timezone.utc).strftime("%Y-%m-%d %H:%M:%S")
+    return time.strftime("%Y-%m-%d %H:%M:%S", time.gmtime(when))

@@ -23,8 +23,10 @@ class Inbox(Generic[M]):
         self._waiting: Deque[tuple[M, Callable[[], None]]] = collections.deque()
         self._came = asyncio.Event()
 
-    def __len__(self) -> int:
-        return len(self._waiting)
+    @property
+    def behind(self) -> int:
+        """Return how many messages wait behind the one that is being taken."""
+        return max(0, len(self._waiting) - 1)
 
     def put(self, loop: asyncio.AbstractEventLoop, message: M, acknowledge: Callable[[], None]) -> None:
         """Put a message. (The broker's thread calls this.)"""

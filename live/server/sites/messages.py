@@ -1,10 +1,9 @@
 """Parse messages of other sites, without their operations. A malformed one raises `InvalidMessage`."""
 from __future__ import annotations
 
-import json
 from typing import Mapping
 
-from ..base.json_values import to_json, Json
+from ..base.json_values import Json, read_json
 from ..model.reading import Malformed, clean_text, read_row, read_site, read_stamp
 from .sums import MOST_RANGES, Bound
 
@@ -19,8 +18,7 @@ class InvalidMessage(Exception):
 def read_message(body: bytes) -> Mapping[str, Json]:
     """Return the fields of a message; none if it is not a JSON object."""
     try:
-        value: Json = json.loads(body.decode())
-        to_json(value).encode()
+        value = read_json(body.decode())
     except (ValueError, RecursionError):
         raise InvalidMessage(f"it is not JSON: {clean_text(body[:60].decode(errors='replace'), 60)}") from None
     return value if isinstance(value, dict) else {}

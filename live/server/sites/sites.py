@@ -31,7 +31,7 @@ from ..journal.naming import is_far
 from ..journal.state import SITE_FORM, State
 from ..lab.gestures import Lab
 from ..lab.keeper import SHARED, wait_until_written
-from ..model.operations import Operation, Unreadable, sort_by_stamp
+from ..model.operations import Operation, sort_by_stamp
 from ..model.reading import LONGEST_NOTE, Malformed, clean_text
 from ..model.road import Road
 from ..program.program import Times
@@ -132,7 +132,7 @@ class Sites:
 
     def state(self) -> BrokerState:
         """Return the state for tabs: the connection, the sites with which this one exchanges operations, and sentences."""
-        return {"state": "connected" if self._is_heard else "away", "unsent": len(self._unreturned()), "behind": len(self._inbox),
+        return {"state": "connected" if self._is_heard else "away", "unsent": len(self._unreturned()), "behind": self._inbox.behind,
                 "sites": [{"site": name, "when": int(site.when)} for name, site in self._peers.others().items()],
                 "told": list(self._told), "stays": list(itertools.islice(self._notices(), MOST_STAY)),
                 "sealed": self._seal.key is not None, "left_out": self._left_out}
@@ -235,7 +235,7 @@ class Sites:
     def _unreturned(self) -> list[Operation]:
         """Return the operations that are on the disk and that the broker has not returned."""
         places, confirmed = self._keeper.state.shared.places, self._keeper.confirmed
-        return [one for one in self._keeper.state.unsent if places.get(one, confirmed) < confirmed and not isinstance(one, Unreadable)]
+        return [one for one in self._keeper.state.unsent if places.get(one, confirmed) < confirmed]
 
     def _announce_site(self) -> None:
         now, echo = time.monotonic(), secrets.token_hex(8)

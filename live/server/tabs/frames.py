@@ -24,16 +24,12 @@ SkippedOperation = TypedDict("SkippedOperation", {"stamp": Stamp, "by": Sequence
 NewsFrame = TypedDict("NewsFrame", {
     "size": int, "from": Sequence[str], "shares": Sequence[Mapping[str, Json]], "changes": Sequence[ListedOperation], "touched": "int | None"})
 """What others shared and the seat has not taken, and the first step that changes."""
-ReplicaOperation = TypedDict("ReplicaOperation", {
-    "stamp": Stamp, "site": str, "layer": Stamp, "shape": Shape, "top": bool, "undoes": Stamp, "excludes": Sequence[Json], "seen": Stamp,
-    "who": str, "note": str, "when": int, "shared": bool, "seat": int}, total=False)
-"""An operation that a replica holds."""
 Frame = TypedDict("Frame", {
     "id": int, "us": Mapping[str, int], "refused": str, "why": str, "seats": Sequence[ListedSeat], "welcome": Welcome,
     "stamp": Stamp, "touched": "int | None", "again": bool, "layers": Sequence[Line], "since": int, "next": int, "more": bool,
     "undo": "Stamp | None", "redo": "Stamp | None", "blocked": Sequence[SkippedOperation], "size": int, "stamps": Sequence[Stamp],
-    "changes": Sequence[ListedOperation], "operations": Sequence[ReplicaOperation], "horizon": int, "cells": str, "rows": Sequence[str],
-    "cars": Json, "speeds": int, "edits": Sequence[WrittenEdit], "sums": Sequence[int], "approach": Sequence[int], "flows": Sequence[DetectorFigures],
+    "changes": Sequence[ListedOperation], "operations": Sequence[Mapping[str, Json]], "shared": Sequence[bool],
+    "makers": Sequence["int | None"], "horizon": int, "cells": str, "rows": Sequence[str], "cars": Json, "speeds": int, "edits": Sequence[WrittenEdit], "sums": Sequence[int], "approach": Sequence[int], "flows": Sequence[DetectorFigures],
     "counts": Json, "from": int, "to": int, "figures": Sequence[Row], "entries": Sequence[MeanTimes], "variants": Sequence[str], "days": int, "stopped": bool,
     "warnings": Sequence[str], "lines": str, "html": str, "csv": str, "points": Sequence["tuple[int, float]"], "capacity": float, "value": Capacity, "now": int,
     "news": NewsFrame, "pong": Json, "broker": BrokerState, "trouble": "str | None", "program": Mapping[str, int]}, total=False)

@@ -34,7 +34,7 @@ from ..lab.road_clock import STEPS_AHEAD
 from ..lab.roads import QueryRoad
 from ..model.choices import sendable
 from ..model.lines import all_lines, find_altered_lines
-from ..model.operations import Operation, Stamp, Unreadable
+from ..model.operations import Operation, Stamp
 from ..model.projection import value_of
 from ..model.road import Road
 from ..model.visibility import visible_rectangles
@@ -235,10 +235,10 @@ class Questions:
     async def operations(self, index: int, replica: Replica, first: int) -> Reply:
         """Return a part of the operations of a replica in order of arrival, from the place `first` on."""
         async def body() -> Reply:
-            state, texts, size = self._keeper.state, list[str](), 0
+            state, texts, size, shared, makers = self._keeper.state, list[str](), 0, list[bool](), list[Union[int, None]]()
             after, more, began = replica.size, False, time.perf_counter()
             for operation, place in [*replica.places.items()]:
-                if place < first or isinstance(operation, Unreadable):
+                if place < first:
                     continue
                 if time.perf_counter() > began + LINES_FOR:
                     await asyncio.sleep(0)
@@ -246,11 +246,12 @@ class Questions:
                 if size > PIECE_OF_LIST:
                     after, more = place, True
                     break
-                written: dict[str, object] = {**operation.written(), "shared": operation in state.shared.places,
-                                              "seat": state.makers.get(operation)}
-                texts.append(to_json(written))
+                texts.append(to_json(operation.written()))
+                shared.append(operation in state.shared.places)
+                makers.append(state.makers.get(operation))
                 size += len(texts[-1])
-            return f'{{"operations":[{",".join(texts)}],"next":{after},"more":{to_json(more)}}}'.encode()
+            return (f'{{"operations":[{",".join(texts)}],"shared":{to_json(shared)},"makers":{to_json(makers)},"next":{after},'
+                    f'"more":{to_json(more)}}}').encode()
         return await self._keeper.ask(index, (), body)
 
     # Demand

@@ -9,8 +9,8 @@ import asyncio
 import collections
 import contextlib
 import functools
-import json
 import logging
+import re
 import socket as sockets
 import struct
 import time
@@ -19,7 +19,7 @@ from typing import TYPE_CHECKING, Callable, Deque, Mapping
 from aiohttp import WSMsgType, web
 from zegdrut.program.programs import describe_standing
 
-from ..base.json_values import to_json, Json
+from ..base.json_values import Json, find_depth, read_json, to_json
 from ..base.refusals import Refused, not_a_command
 from ..base.supervised import supervise
 from ..figures.figures import list_heads
@@ -41,6 +41,8 @@ if TYPE_CHECKING:
 
 LONGEST_FRAME = 65_536
 MOST_PENDING = 8  # commands of a tab that may wait
+MOST_NESTED = 20  # lists and objects in one another, in a frame
+NUMBER = re.compile(r'\{"id": ?([0-9]{1,15}),')  # the beginning of a frame, up to its number
 MOST_CHANGING = 2 * MOST_PENDING  # waiting commands of a seat that change something, including those of former tabs
 FLOOD_PAUSE = 0.01  # seconds that a tab is not read after each frame too many
 MOST_FAULTS = 20  # malformed frames
@@ -140,11 +142,13 @@ class Tab:
         came = time.perf_counter()
         try:
             number, verb, fields = parse_frame(text)
-        except (ValueError, RecursionError):
+        except (ValueError, RecursionError) as fault:
             self._faults += 1
             if self._faults >= MOST_FAULTS:
                 self.disconnect(1008, "too many malformed frames")
-            self._send(not_a_command('a frame must be {"id":NUMBER,"COMMAND":{..}}').reply())
+            asked = NUMBER.match(text)
+            self._send({**({"id": int(asked[1])} if asked else {}),
+                        **not_a_command(f'a frame must be {{"id":NUMBER,"COMMAND":{{..}}}} ({fault})').reply()})
             return
         if verb == "hello" or verb == "seats" and self.index is None:
             await self._enter(number, verb, fields)
@@ -202,28 +206,19 @@ class Tab:
 
 
 def parse_frame(text: str) -> tuple[int, str, Json]:
-    """Return number, command and fields of a frame. Raise ValueError if it is malformed or not UTF-8."""
+    """Return number, command and fields of a frame. Raise ValueError if it is malformed or not UTF-8, or its values are nested too deep."""
     text.encode()
-    value: Json = json.loads(text, parse_constant=refuse_constant, parse_float=parse_finite)
+    if text.count("[") + text.count("{") > MOST_NESTED and find_depth(text) > MOST_NESTED:
+        raise ValueError(f"its values are nested more than {MOST_NESTED} deep")
+    value = read_json(text)
     number = value.get("id") if isinstance(value, dict) else None
     if not isinstance(value, dict) or type(number) is not int or len(value) != 2:
         raise ValueError("no command")
-    json.dumps(value, ensure_ascii=False).encode()  # a lone surrogate is not UTF-8
     del value["id"]
     if not 0 <= number < 1 << 53:
         raise ValueError("no number")
     (verb, fields), = value.items()
     return number, verb, fields
-
-
-def refuse_constant(text: str) -> None:
-    raise ValueError(f"{text} is not a JSON number")
-
-
-def parse_finite(text: str) -> float:
-    if abs(float(text)) == float("inf"):
-        raise ValueError(f"{text} is too large")
-    return float(text)
 
 
 class Tabs:
