@@ -168,6 +168,7 @@ class Shell(Case):
 
     async def test_no_command_ends_in_a_traceback(self) -> None:
         """Each of them is tried with each odd argument in all places."""
+        self.elsewhere = new_folder()  # the exports have odd names
         script: Any = SourceFileLoader("road_script", str(LIVE / "road")).load_module()  # pylint: disable=deprecated-method, no-value-for-parameter
         commands = [(verb, most) for verb, (*_, most) in script.ARGUMENTS.items() if most and verb not in ("tell", "clock")] + [("clock", 1)]
         commands += [(f"put {kind}", 5 if kind in ("capacity", "limit", "slowing", "slow-to-start") else 4) for kind in HOW]
@@ -190,7 +191,7 @@ class Shell(Case):
             return 0
         said = io.StringIO()
         with mock.patch.object(sys, "argv", ["road", *words]), mock.patch.dict(os.environ, {"LIVE": str(self.a6.folder)}), \
-                contextlib.redirect_stdout(io.StringIO()), contextlib.redirect_stderr(said):
+                contextlib.chdir(self.elsewhere), contextlib.redirect_stdout(io.StringIO()), contextlib.redirect_stderr(said):
             status = await asyncio.wait_for(asyncio.to_thread(call), patience(30))
         self.assertIn(status, (0, 1, 2, 3), [one[:60] for one in words])
         self.assertEqual(bool(said.getvalue()), status != 0, [one[:60] for one in words])
