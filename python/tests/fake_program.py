@@ -6,7 +6,8 @@ The first line is the plan; each later one is {"echo": {"text": .., ..}} with so
     cut     the number of bytes of the reply that are written before the parent gets a SIGINT; the remaining bytes follow
     steps   the reply is written byte by byte
     late    seconds before the reply
-    what    "twice": a second reply; "noise": a line that is not a reply; "exit": end with status 3; "session": reply with the process session
+    what    "twice": a second reply; "noise": a line that is not a reply; "exit": end with status 3; "session": reply with the process session;
+            "count": reply with the number of lines after the plan
 """
 import json
 import os
@@ -37,7 +38,7 @@ def read_line(signals: int) -> bytes:
     return found
 
 
-def reply(text: object, asked: dict) -> None:
+def reply(text: object, asked: dict, count: int) -> None:
     data = json.dumps({"echo": text}).encode() + b"\n"
     time.sleep(asked.get("late", 0))
     what = asked.get("what")
@@ -46,6 +47,8 @@ def reply(text: object, asked: dict) -> None:
         sys.exit(3)
     if what == "session":
         data = json.dumps({"echo": os.getsid(0)}).encode() + b"\n"
+    if what == "count":
+        data = json.dumps({"echo": count}).encode() + b"\n"
     if what == "noise":
         data = b"Segmentation fault\n"
     cut = asked.get("cut")
@@ -61,13 +64,14 @@ def reply(text: object, asked: dict) -> None:
 
 
 def main() -> None:
-    signals = 0
+    signals = count = 0
     read_line(0)
     write(b'{"open":1}\n')
     while True:
         asked = json.loads(read_line(signals))["echo"]
         signals = asked.get("then_signals", 0)
-        reply(asked["text"] if len(str(asked["text"])) < 100 else len(asked["text"]), asked)
+        count += 1
+        reply(asked["text"] if len(str(asked["text"])) < 100 else len(asked["text"]), asked, count)
 
 
 if __name__ == "__main__":

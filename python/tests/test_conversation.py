@@ -22,11 +22,16 @@ from zegdrut import Ended, LabBroken, LabCancelled, LabError, LabTimeout, NoProg
 FAKE = Path(__file__).with_name("fake_program.py")
 PLAN: dict[str, Any] = {"length": 8}
 ROAD = Plan(length=40, inlets=[(0, 65_536)], zones=[(3, 0)], detectors=[28], words="steady")
-LONG = 180.0  # seconds: enough even on a busy machine
+LONG = 20.0  # seconds: enough even on a busy machine
 
 
 def fake(timeout: float | None = LONG) -> RoadLab:
     return RoadLab(PLAN, FAKE, timeout)
+
+
+def list_threads() -> set[str]:
+    """Return the numbers of this process's threads, also of those that the module `threading` does not know."""
+    return set(os.listdir("/proc/self/task"))
 
 
 def echo(text: object, **how: Any) -> dict[str, Any]:
@@ -118,10 +123,13 @@ class Interrupts(unittest.TestCase):
     def test_an_interrupted_message_is_explained(self) -> None:
         """Explain a refusal that is due to an abandoned call."""
         with RoadLab(ROAD, timeout=LONG) as lab:
-            lab.timeout = 0.0
-            with self.assertRaises(LabTimeout):
-                lab.send("A", "m")
-            lab.timeout = LONG
+            said = ""
+            while "carries the call out all the same" not in said:
+                lab.timeout = 0.0
+                with self.assertRaises(LabTimeout) as raised:
+                    lab.send("A", "m")
+                said = str(raised.exception)
+                lab.timeout = LONG
             with self.assertRaisesRegex(Refused, "the name \"m\" is taken: `send` made a message of this name"):
                 lab.send("A", "m")
 
@@ -150,6 +158,18 @@ class Endings(unittest.TestCase):
             lab.timeout = LONG
             self.assertEqual(lab.ask(echo("next")), {"echo": "next"})
 
+    def test_a_call_whose_time_is_over(self) -> None:
+        """Let the time of a call pass that the program has begun, and of one that still waits: only the first is carried out."""
+        with fake() as lab:
+            lab.timeout = 0.5
+            with self.assertRaisesRegex(LabTimeout, "no reply within 0.5 s: the program carries the call out all the same, and the next call waits"):
+                lab.ask(echo("begun", late=3))
+            lab.timeout = 0.1
+            with self.assertRaisesRegex(LabTimeout, "no reply within 0.1 s: the program was busy with an earlier call, and this one was dropped"):
+                lab.ask(echo("dropped"))
+            lab.timeout = LONG
+            self.assertEqual(lab.ask(echo("", what="count")), {"echo": 2})
+
     def test_a_timeout_of_a_call_with_many_commands(self) -> None:
         """Advance by many short commands: the timeout holds for the whole call."""
         pieces: list[int] = []
@@ -174,7 +194,7 @@ class Endings(unittest.TestCase):
                 pieces.append(done)
                 self.assertLess(len(pieces), 5, "the call was not cancelled")
                 lab.cancel()
-            with self.assertRaisesRegex(LabCancelled, "the call was cancelled: the program continues"):
+            with self.assertRaisesRegex(LabCancelled, "the call was cancelled: if the program has begun it"):
                 lab.advance("A", 1_000_000, 10, wait)
             self.assertEqual(len(lab.cells("A", 0)), 40)
         with fake() as lab:
@@ -191,7 +211,7 @@ class Endings(unittest.TestCase):
             raise Interrupt
         self.addCleanup(signal.signal, signal.SIGALRM, signal.signal(signal.SIGALRM, interrupt))
         self.addCleanup(signal.setitimer, signal.ITIMER_REAL, 0)
-        before, interrupted = {*threading.enumerate()}, 0
+        before, interrupted = list_threads(), 0
         for turn in range(60):
             lab = fake()
             pid = lab.ask(echo("", what="session"))["echo"]
@@ -204,8 +224,30 @@ class Endings(unittest.TestCase):
                 lab.close()
             self.check_refuses_all(lab, "this lab was closed")
             self.assertFalse(Path(f"/proc/{pid}").exists())
-            self.assertEqual({*threading.enumerate()} - before, set())
+            self.assertEqual(list_threads() - before, set())
         self.assertGreater(interrupted, 5)
+
+    def test_interrupts_of_a_constructor(self) -> None:
+        """Interrupt constructors at rising times: no thread and no program stays."""
+        def interrupt(_: int, __: FrameType | None) -> None:
+            raise Interrupt
+        self.addCleanup(signal.signal, signal.SIGALRM, signal.signal(signal.SIGALRM, interrupt))
+        self.addCleanup(signal.setitimer, signal.ITIMER_REAL, 0)
+        before, interrupted = list_threads(), 0
+        for turn in range(300):
+            try:
+                signal.setitimer(signal.ITIMER_REAL, 10 ** (-5 + turn % 50 / 20))
+                with fake() as lab:
+                    signal.setitimer(signal.ITIMER_REAL, 0)
+                    lab.ask(echo("right"))
+            except Interrupt:
+                interrupted += 1
+        self.assertGreater(interrupted, 30)
+        gc.collect()
+        until = time.monotonic() + LONG
+        while list_threads() - before and time.monotonic() < until:
+            time.sleep(0.01)
+        self.assertEqual(list_threads() - before, set())
 
     def test_a_program_that_ends(self) -> None:
         with fake() as lab:
@@ -235,13 +277,13 @@ class Endings(unittest.TestCase):
             self.check_refuses_all(lab, "something that is not a reply")
 
     def test_a_closed_lab(self) -> None:
-        before = {*threading.enumerate()}
+        before = list_threads()
         lab = fake()
         with lab:
             pass
         lab.close()
         self.check_refuses_all(lab, "this lab was closed")
-        self.assertEqual({*threading.enumerate()} - before, set())  # (a thread of an earlier test may end meanwhile)
+        self.assertEqual(list_threads() - before, set())  # (a thread of an earlier test may end meanwhile)
 
     def test_a_lab_that_is_closed_during_a_call(self) -> None:
         lab = fake()
@@ -283,10 +325,10 @@ class Endings(unittest.TestCase):
         self.assertEqual((ran.stdout, ran.stderr), (f"{FAKE} could not be started: Too many open files: start a new one\n", ""))
 
     def test_a_plan_that_is_refused(self) -> None:
-        before = {*threading.enumerate()}
+        before = list_threads()
         with self.assertRaisesRegex(Refused, "^Length: a road must have 8 to 8,192 cells"):
             RoadLab(Plan(length=4, inlets=[(0, 1)], zones=[(5, 0)]))
-        self.assertEqual({*threading.enumerate()} - before, set())  # (a thread of an earlier test may end meanwhile)
+        self.assertEqual(list_threads() - before, set())  # (a thread of an earlier test may end meanwhile)
 
     def test_errors_can_be_pickled(self) -> None:
         for fault in (Refused("Step", "too late", "{}"), Ended(3, "no"), LabBroken("closed"), NoProgram("/x")):

@@ -64,14 +64,15 @@ class Ended(LabBroken):
 
 
 class LabTimeout(LabError, TimeoutError):
-    """The reply did not come in time. The program continues with the call, and the next call waits for that."""
+    """The reply did not come in time. Either the program carries the call out all the same, and the next call waits for that; or it was
+    busy with earlier calls, and this one was dropped. The message says which."""
 
 
 class LabCancelled(LabError):
-    """The call was cancelled. The program continues with it, and the next call waits for that."""
+    """The call was cancelled. If the program has begun it, it carries it out all the same, and the next call waits for that."""
 
     def __init__(self) -> None:
-        super().__init__("the call was cancelled: the program continues, and the next call waits for that")
+        super().__init__("the call was cancelled: if the program has begun it, the next call waits for its end")
 
     def __reduce__(self) -> tuple[type[LabCancelled], tuple[()]]:
         return type(self), ()

@@ -6,6 +6,7 @@ abandoned reply before it writes the next request.
 """
 from __future__ import annotations
 
+import _thread
 import contextlib
 import copy
 import errno
@@ -41,6 +42,8 @@ HEADS = (b"\x7fELF", b"#!")
 """The first bytes of programs and of scripts."""
 ROWS = b'{"rows":["'
 """The first bytes of a reply with rows."""
+SHORT = 0.001
+"""The seconds between two looks at a thread that will end at once."""
 LOOK = 1.0
 """The seconds without a reply after which a caller checks that the thread still runs."""
 
@@ -65,15 +68,20 @@ class Deadline(NamedTuple):
 class Request:
     """A line for the program, and its reply once it has come."""
 
-    __slots__ = ("line", "text", "wants_rows", "rows", "reply", "fault", "done")
+    __slots__ = ("line", "text", "wants_rows", "rows", "reply", "fault", "taken", "done")
 
     def __init__(self, line: Fields, text: bytes, wants_rows: bool = False) -> None:
         self.line, self.text = line, text
         self.wants_rows, self.rows = wants_rows, b""  # a reply with rows is then not parsed, and `rows` is its line
         self.reply: Reply = {}
         self.fault: BaseException | None = None
+        self.taken = threading.Lock()  # by the thread, which then sends the line, or by a caller who no longer wants that
         self.done = threading.Lock()
         self.done.acquire()
+
+    def take(self) -> bool:
+        """Take the request, to send its line or to drop it. Return whether nobody has taken it before."""
+        return self.taken.acquire(blocking=False)
 
     def finish(self) -> None:
         """Wake the caller, unless `cancel` has done so."""
@@ -104,8 +112,8 @@ class Conversation:
         self._waiting: set[Request] = set()
         self._cancels = 0
         self._reasons = Reasons()
-        self._thread = threading.Thread(target=self._serve, name="zegdrut", daemon=True)
-        self._thread.start()
+        self._has_thread = self._has_ended = False  # the thread that talks to the program
+        self._thread = 0  # its identifier while it runs
 
     def deadline(self, timeout: float | None) -> Deadline:
         """Return when a call must end that begins now."""
@@ -124,24 +132,33 @@ class Conversation:
         """Send a request, whose reply `finish` returns. Several may be sent at once."""
         if os.getpid() != self._owner:
             raise LabBroken("this lab belongs to the process that started it")
+        if self._broken is not None:
+            raise self._cause()
         self._waiting.add(request)
         if self._cancels != deadline.cancels:
             self._waiting.discard(request)
             raise LabCancelled
         self._requests.put(request)
+        with self._ending:
+            if not self._has_thread:
+                _thread.start_new_thread(self._serve, ())  # (an interrupt of `threading.Thread.start` leaves a thread that never ends)
+                self._has_thread = True
         return request
 
     def finish(self, request: Request, deadline: Deadline) -> Request:
         """Return a request with its reply, or raise its exception."""
         try:
             while not request.done.acquire(timeout=max(0.0, min(LOOK, deadline.until - time.monotonic()))):
-                if not self._thread.is_alive() and not request.done.acquire(blocking=False):
+                if self._has_ended and not request.done.acquire(blocking=False):
                     raise self._cause()
                 if time.monotonic() >= deadline.until:
-                    raise LabTimeout(f"no reply within {deadline.seconds:g} s: the program continues, and the next call waits for that")
+                    then = ("the program was busy with an earlier call, and this one was dropped" if request.take() else
+                            "the program carries the call out all the same, and the next call waits for that")
+                    raise LabTimeout(f"no reply within {deadline.seconds:g} s: {then}")
             request.raise_fault()
             return request
         finally:
+            request.take()
             self._waiting.discard(request)
 
     def forget(self, requests: Iterable[Request]) -> None:
@@ -163,20 +180,24 @@ class Conversation:
 
     def wait(self) -> None:
         """Wait until the program and its thread have ended, after `close`."""
-        if os.getpid() == self._owner and threading.current_thread() is not self._thread:
-            self._thread.join(PATIENCE)
+        until = time.monotonic() + PATIENCE
+        while os.getpid() == self._owner and self._thread not in (0, threading.get_ident()) and time.monotonic() < until:
+            time.sleep(SHORT)
 
     # The thread
 
     def _serve(self) -> None:
+        self._thread = threading.get_ident()
         while (request := self._requests.get()) is not None:
-            try:
-                request.reply = self._answer(request)
-            except BaseException as fault:  # (the caller raises it)
-                request.fault = fault
-            request.finish()
+            if request.take():
+                try:
+                    request.reply = self._answer(request)
+                except BaseException as fault:  # (the caller raises it)
+                    request.fault = fault
+                request.finish()
             del request
         self._reap()
+        self._has_ended, self._thread = True, 0
 
     def _answer(self, request: Request) -> Reply:
         process = self._start()

@@ -43,8 +43,8 @@ class RoadLab:
     - `TypeError`, `ValueError`: an argument has a wrong type, is NaN or is negative. The message begins with its name.
 
     Threads may share a lab: their calls are carried out one after the other. After an interrupt, a timeout or `cancel` the
-    program continues with the call. The next call waits for that, and gets its own reply. The program ends with this process, however
-    the process ends.
+    program carries out what it has begun: an edit is then made. The next call waits for that, and gets its own reply. A call that still
+    waits for its turn is dropped. The program ends with this process, however the process ends.
     """
 
     def __init__(self, plan: Plan | PlanLine, program: Path | str | None = None, timeout: float | None = None) -> None:
