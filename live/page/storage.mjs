@@ -28,16 +28,29 @@ export function storePending(storage, at, pending) {
 const modernize = (gesture) => ({...gesture, ...(Array.isArray(gesture.shape) ? {shape: null} : {}),
                              does: gesture.does === "undo" || gesture.does === "redo" ? gesture.does : "apply"});
 
+/** Return whether a stored value is an object.
+ * @param {unknown} value
+ * @returns {value is Record<string, unknown>}
+ */
+const isObject = (value) => typeof value === "object" && value !== null && !Array.isArray(value);
+
+/** Return whether a stored value is a gesture with its key. Others, which no page wrote, are ignored.
+ * @param {unknown} value
+ * @returns {value is [string, Pending]}
+ */
+const isGesture = (value) => Array.isArray(value) && typeof value[0] === "string" && isObject(value[1]);
+
 /** Return the stored gestures, and their seat; "" if nothing is stored.
  * @param {Storage} storage
  * @returns {{at: string, gestures: [string, Pending][]}}
  */
 export function loadPending(storage) {
   try {
-    /** @type {{at?: string, acts?: [string, Pending][]}} */
+    /** @type {{at?: unknown, acts?: unknown}} */
     const found = JSON.parse(storage.getItem(NAME) ?? "{}");
-    const gestures = Array.isArray(found.acts) ? found.acts : [];
-    return {at: found.at ?? "", gestures: gestures.map(([key, gesture]) => [key, modernize(gesture)])};
+    const acts = Array.isArray(found.acts) ? found.acts : [];
+    return {at: typeof found.at === "string" ? found.at : "",
+            gestures: acts.filter(isGesture).map(([key, gesture]) => [key, modernize(gesture)])};
   } catch {
     return {at: "", gestures: []};
   }
@@ -73,6 +86,13 @@ const MOST_SEATS = 8;           // seats that a browser keeps
  * @typedef {{seat: number, key: string, chosen?: RoadName[]}} KeptSeat
  */
 
+/** Return whether a stored value is a seat. Others, which no page wrote, are ignored.
+ * @param {unknown} value
+ * @returns {value is KeptSeat}
+ */
+const isSeat = (value) => isObject(value) && Number.isInteger(value.seat) && typeof value.key === "string"
+  && (value.chosen === undefined || Array.isArray(value.chosen) && value.chosen.every((one) => typeof one === "string"));
+
 /** Return the seats that this browser had, the latest last.
  * @returns {KeptSeat[]}
  */
@@ -80,7 +100,7 @@ export function loadSeats() {
   try {
     /** @type {unknown} */
     const found = JSON.parse(remembered("seats") || "[]");
-    return Array.isArray(found) ? found : [];
+    return Array.isArray(found) ? found.filter(isSeat) : [];
   } catch {
     return [];
   }

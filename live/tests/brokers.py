@@ -304,6 +304,31 @@ class Brokers(Case):
             async with first.seat("Ada") as ada:
                 await until(lambda: self.is_told("The broker does not know MQTT 5, which live needs", ada), "it is reported")
 
+    async def test_a_broker_that_lets_in_the_sites_alone(self) -> None:
+        """As OPERATING.md says. Nobody else can send anything, and the sites exchange everything."""
+        broker, secret = self.broker(), new_folder() / "secret"
+        broker.kill()
+        secret.write_text("a secret")
+        (broker.folder / "acl").write_text("pattern readwrite road/#\n")
+        subprocess.run(["mosquitto_passwd", "-c", "-b", str(broker.folder / "sites"), "site", "a secret"], check=True, capture_output=True)
+        (broker.folder / "sites").chmod(0o644)
+        conf = broker.folder / "conf"
+        conf.write_text(conf.read_text().replace("allow_anonymous true", f"allow_anonymous false\npassword_file {broker.folder}/sites\n"
+                                                 f"acl_file {broker.folder}/acl"))
+        broker.start()
+        first, second = (self.server("--broker", broker.address, "--site", name, "--broker-user", "site", "--broker-password", str(secret))
+                         for name in ("north", "south"))
+        async with first.seat("Ada") as ada, second.seat("Sam") as sam:
+            await put(ada, "limit", 1, 8, 1)
+            await put(sam, "limit", 2, 9, 2)
+            await self.same(ada, sam, edits=2)
+            await until(lambda: self.broker_is(ada, "connected", 0), "connected")
+        with self.assertRaises(subprocess.CalledProcessError):
+            broker.say(f"road/{reference(first)}/operations", "x")
+        third = self.server("--broker", broker.address, "--site", "east")
+        async with third.seat("Eve") as eve:
+            await until(lambda: self.is_told("The broker refused the connection: Not authorized", eve), "it is reported")
+
     async def test_a_broker_on_another_host_requires_a_password(self) -> None:
         with self.assertRaisesRegex(RuntimeError, "give --broker-user and --broker-password"):
             self.server("--broker", "192.0.2.1:8883")

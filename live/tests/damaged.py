@@ -7,7 +7,7 @@ import sys
 from pathlib import Path
 from typing import Any, Callable
 
-from faulty import Bus, Here
+from faulty import Bus, Here, written
 from running import LIVE, SMALL, Case, new_folder
 from server.base.journal_lines import SUM, CannotStart, CorruptJournal, journal_line
 from server.base.json_values import to_json
@@ -144,6 +144,27 @@ class Damaged(Case):
             self.assertEqual((folder / "journal.jsonl").read_bytes(), before)
             _, left_out = read_damaged(folder)
             self.assertEqual(len(left_out), 1)
+
+    async def test_what_a_tab_may_not_send_is_read_from_a_journal_and_from_sites(self) -> None:
+        """Values nested 480 deep in a field that this version does not know, and a layer that an exclusion names."""
+        deep: Any = 1
+        for _ in range(480):
+            deep = [deep]
+        out = written(6, excludes=["west-00000000", True])
+        odd = [written(5, shape=["limit", 1, 1, 9, None, 2], x=deep), out, written(7, layer=out["stamp"], shape=["block", 3, 4, 9, None, 1], who="Eve")]
+        async with Here(plan=SMALL) as here:
+            site = Bus().site(here)
+            await site._receive(site._operations_topic, "f", json.dumps({"form": 4, "operations": odd}).encode())
+            await here.join("Ada")
+            await here.take(1)
+            total = (await site._sum_up()).total
+        for _ in range(2):
+            async with Here(here.folder) as again:
+                self.assertEqual((await Bus().site(again)._sum_up()).total, total)
+                self.assertEqual([*again.lab.state.shared.road.layers], [tuple(odd[0]["stamp"])])
+                site_line = next(line for line in (await again.ask(1, "layers"))["layers"] if line.get("site") == "west-00000000")
+                self.assertEqual([(one["who"], one.get("void", False)) for one in site_line["operations"]], [("", False), ("Eve", True)])
+                await again.keeper.compact()
 
     async def test_from_the_shell(self) -> None:
         """The export of a damaged folder names the lines that it leaves out, too."""

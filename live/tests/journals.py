@@ -27,7 +27,7 @@ from server.base.journal_lines import CannotStart, Entries, read_entries
 from server.lab.keeper import Keeper
 from server.base.settings import Settings
 from crashes import numbers
-from running import LIVE, SMALL, Case
+from running import LIVE, SMALL, Case, Server
 from server.journal.naming import Counter, can_be_said, is_far, new_site
 from server.journal.entries import write_entry
 from server.journal.state import State
@@ -352,6 +352,19 @@ class Folders(Case):
 
     async def shared(self, seat: Seat, number: int) -> None:
         await seat.ask("gesture", key=f"g{number}", shape=["limit", number % 6, number % 6, 10 + number, None, number % 5])
+
+    async def test_a_start_on_a_disk_that_fails_names_the_folder(self) -> None:
+        """Nothing is lost: once the disk works again, so does the server."""
+        server = self.server()
+        server.stop()
+        (server.folder / "failing").touch()
+        with mock.patch.object(Server, "serve", LIVE / "tests" / "stalling.py"):
+            with self.assertRaisesRegex(RuntimeError, f"live/serve: a file in {server.folder} cannot be read or written: Input/output error"):
+                server.start()
+        (server.folder / "failing").unlink()
+        server.start()
+        async with server.seat("Ada") as ada:
+            self.assertEqual(ada.welcome["seat"], 1)
 
     async def test_a_server_starts_from_each_of_twenty_cuts(self) -> None:
         """A server starts from each cut journal, and has all complete lines."""

@@ -9,6 +9,7 @@ import {untaken, unshared} from "../page/changes.mjs";
 import {decodeChange, decodeList} from "../page/decoding.mjs";
 import {Layers, countTrapped, isInForce, lostOf, privateOf} from "../page/layers.mjs";
 import {Words, affectedBy, historyOf, isPlanned, listChanges} from "../page/changetexts.mjs";
+import {byStamp} from "../page/stamps.mjs";
 import {store} from "../page/store.mjs";
 
 const PLAN = {...JSON.parse(readFileSync(new URL("../plan.json", import.meta.url), "utf8")), origin: 0};
@@ -282,4 +283,26 @@ test("the demand and the slow-to-start chance of the road's file are planned unt
                        {shape: {...start.shape, from: 60}}, {shape: {...start.shape, to: 600}}]) {
     assert.ok(!isPlanned({...start, ...other}), JSON.stringify(other));
   }
+});
+
+test("what was undone before anybody else had it is not shared", () => {
+  const change = decodeChange(withSeats(ada([], {operations: [
+    {stamp: stamp(1, ADA), does: "put", shared: true}, {stamp: stamp(2, ADA), does: "change", shared: false, idle: true},
+    {stamp: stamp(3, ADA), does: "undo", shared: false, idle: true}, {stamp: stamp(4, ADA), does: "change", shared: false}]})));
+  assert.deepEqual(privateOf(change).map(({stamp: {count}}) => count), [4]);
+});
+
+test("of two stamps with the same count, the one with the greater hash is the later", () => {
+  const stamps = [{count: 2, hash: "b"}, {count: 10, hash: "a"}, {count: 2, hash: "a"}, {count: 2, hash: "Z"}];
+  assert.deepEqual(stamps.sort(byStamp).map(({count, hash}) => `${count}${hash}`), ["2Z", "2a", "2b", "10a"]);
+  assert.equal(byStamp({count: 2, hash: "a"}, {count: 2, hash: "a"}), 0);
+});
+
+test("a list says what Undo passes over, until it says otherwise", () => {
+  const layers = road(ada([[1200, 2400, null]]));
+  assert.deepEqual(layers.blocked, []);
+  layers.update(decodeList({layers: [], next: 8, undo: null, redo: null, blocked: [{stamp: stamp(1, ADA), by: ["Ben"]}]}));
+  assert.deepEqual(layers.blocked, [{stamp: nameOf(1, ADA), by: ["Ben"]}]);
+  layers.update(decodeList({layers: [], next: 9, undo: null, redo: null}));
+  assert.deepEqual(layers.blocked, []);
 });

@@ -5,15 +5,16 @@ import base64
 import hashlib
 import itertools
 import json
+import random
 import unittest
 
 from oracle import all_edits
-from painted import EMPTY, made_by
+from painted import EMPTY, ORACLE, STEPS, made_by
 from working import takes_at_most
 from server.model import choices, lines, visibility
 from server.model.operations import About, Operation, Shape, describe_act, exclude, lift, named, put, undo
 from server.base.json_values import Json
-from server.model.projection import difference
+from server.model.projection import difference, first_change
 from server.model.reading import GREATEST_COUNT, Malformed, read_operation
 from server.model.road import Road, change, repeat
 
@@ -91,6 +92,24 @@ class Cases(unittest.TestCase):
         self.assertEqual((road.layers[LINE].end, visibility.find_overruled(road, LINE)), (25, {}))
         at_once = change(BASE, 3, LINE, LONGER, about=ADA)
         self.assertEqual(visibility.find_overruled(in_every_order([CLOSURE, taken, at_once]), LINE), {taken: at_once})
+
+    def test_the_winner_is_the_first_change_that_counts_and_did_not_know_of_the_loser(self) -> None:
+        """Ada and Ben change a line at once, and Cleo changes it after Ben. If Ben's is undone, Ada lost to Cleo's."""
+        adas, bens = change(BASE, 2, LINE, WIDE, about=ADA), change(BASE, 3, LINE, SHAPE, about=BEN)
+        cleos = change(BASE.adding([bens]), 4, LINE, LONGER, about=CLEO)
+        last = change(BASE.adding([bens, cleos]), 6, LINE, SHAPE, about=CLEO)
+        gone = undo(5, bens, BEN)
+        self.assertEqual(visibility.find_overruled(in_every_order([CLOSURE, adas, bens, cleos]), LINE), {adas: bens})
+        for more in (list[Operation](), [last]):
+            road = in_every_order([CLOSURE, adas, bens, cleos, gone, *more])
+            self.assertEqual(visibility.find_overruled(road, LINE), {adas: cleos, gone: cleos})
+        taken = undo(3, adas, ADA)
+        on_it = change(BASE.adding([adas]), 4, LINE, SHAPE, about=BEN)
+        above = change(BASE.adding([adas, on_it]), 5, LINE, LONGER, about=CLEO)
+        both = [CLOSURE, adas, taken, on_it, above]
+        self.assertEqual(visibility.find_overruled(in_every_order(both), LINE), {taken: on_it})
+        late = undo(6, on_it, BEN)
+        self.assertEqual(visibility.find_overruled(in_every_order([*both, late]), LINE), {taken: above, late: above})
 
     def test_behind_a_gap_only_what_is_later_than_the_gap_has_lost(self) -> None:
         """The author of the last change had seen one that is missing here, so he may have seen all older ones."""
@@ -293,6 +312,25 @@ class Cases(unittest.TestCase):
         with takes_at_most(5):
             self.assertEqual(visibility.find_overruled(BASE.adding(many), LINE), {})
 
+    def test_the_first_change_is_that_of_a_value_in_force(self) -> None:
+        """A slow-to-start chance may be the slowing chance of its zone, which changes later."""
+        chance, found = random.Random(4), [0, 0]
+        for _ in range(400):
+            roads = [EMPTY, EMPTY]
+            for count in range(1, chance.randrange(3, 9)):
+                kind, begin = chance.choice(["start", "start", "slow", "limit"]), chance.randrange(STEPS)
+                zone = chance.randrange(2)
+                one = put(count, Shape(kind, zone, zone, begin, chance.choice([None, begin + 1 + chance.randrange(9)]), chance.randrange(2)), ADA)
+                for place in (0, 1) if chance.random() < 0.6 else (1,):
+                    roads[place] = roads[place].adding([one])
+            values = [ORACLE.painted(road.operations) for road in roads]
+            steps = [step for thing, line in values[0].items() for step, (old, new) in enumerate(zip(line, values[1][thing])) if old != new]
+            edits = difference(roads[0], roads[1])
+            self.assertEqual(first_change(roads[0], roads[1], edits), min(steps, default=None))
+            found[0] += bool(edits) and not steps
+            found[1] += bool(steps) and min(steps) > min(step for _, _, step in edits)
+        self.assertTrue(min(found) > 3, found)
+
     def test_the_difference_of_two_roads_is_that_of_all_their_operations(self) -> None:
         road = BASE.adding([put(2, WIDE, ADA)])
         self.assertEqual(difference(BASE, road), difference(BASE, EMPTY.adding(road.operations)))
@@ -380,6 +418,15 @@ class Capacities(unittest.TestCase):
         on_top = road.adding([lift(4, self.WORKS.stamp, ADA)])
         self.assertEqual(visibility.covered_rectangles(on_top, self.WORKS.stamp), [])
         self.assertEqual([one for one in self.values(on_top, 2) if one[0] == "slow"], [("slow", 5, 20_000), ("slow", 15, 1)])
+
+    def test_it_no_longer_holds_where_its_slow_to_start_chance_alone_is_covered(self) -> None:
+        road, start = EMPTY.adding([self.WORKS]), put(3, Shape("start", 2, 2, 7, 9, 5), BEN)
+        then = road.adding([start])
+        self.assertEqual([one[1:5] for one in visibility.covered_rectangles(then, self.WORKS.stamp)], [(2, 2, 7, 9)])
+        self.assertIn(self.WORKS.stamp, lines.find_altered_lines(road, then))
+        self.assertEqual([one for one in self.values(then, 2) if one[0] == "start"],
+                         [("start", 5, 30_000), ("start", 7, 5), ("start", 9, 30_000), ("start", 15, 1)])
+        self.assertEqual(visibility.covered_rectangles(then.adding([undo(4, start, BEN)]), self.WORKS.stamp), [])
 
     def test_a_line_may_become_a_capacity_and_a_limit_again(self) -> None:
         limit = put(1, Shape("limit", 1, 2, 5, 15, 4), BEN)

@@ -54,10 +54,33 @@ class Seats(Case):
         await self.here.join("Adam", "Zoe 1", "Zoé 2", "語", "語語", "Ad-a")
 
     async def test_a_name_that_cannot_be_seen_is_refused(self) -> None:
-        for name in ("", "\u3164", "\u2800\u2800", "\u115f \u1160", "\u034f\ufe0f"):
+        for name in ("", "\u3164", "\u2800\u2800", "\u115f \u1160", "\u034f\ufe0f", "e" + 63 * "\u0301", "Ada\u0301\u0302\u0303\u0304", "\u00e9\u0302\u0303\u0304"):
             with self.assertRaises(Refused, msg=name) as caught:
                 await self.here.lab.seating.join(name, "", None)
             self.assertEqual(caught.exception.text, "NoName")
+
+    async def test_a_seat_with_many_marks_in_its_name_keeps_it(self) -> None:
+        """Only new names have few; and Vietnamese, Hindi and Thai are written with as many as they need."""
+        await self.here.join("Nguyễn", "हिन्दी", "ภาษาไทยที่", "e\u0301\u0302\u0303")
+        with mock.patch("server.base.names.MOST_MARKS", 99):
+            index, key = await self.here.lab.seating.join("e" + 63 * "\u0301", "", None)
+        await self.here.keeper.close()
+        again = await self.enterAsyncContext(Here(self.here.folder))
+        self.assertEqual(await again.lab.seating.join("", key, None), (index, key))
+
+    async def test_a_list_kept_by_its_version_hears_that_a_seat_was_freed(self) -> None:
+        """The next owner has not made the changes of the one before."""
+        ada, ben = await self.here.join("Ada", "Ben")
+        stamp = await self.here.put(ada, ["limit", 2, 50, 3])
+        await self.here.share(ada)
+        await self.here.take(ben)
+        kept = await self.here.ask(ben, "layers")
+        self.assertEqual([(line["name"], line["seat"], line["operations"][0]["seat"]) for line in kept["layers"]], [(stamp, ada, ada)])
+        await self.here.ask(ada, "leave")
+        cem, = await self.here.join("Cem")
+        self.assertEqual(cem, ada)
+        fresh = await self.here.ask(ben, "layers", **{"from": kept["next"]})
+        self.assertEqual([(line["name"], line.get("seat"), line["operations"][0].get("seat")) for line in fresh["layers"]], [(stamp, None, None)])
 
     async def test_keys_live_as_long_as_their_operations_and_the_newest_forgotten_ones_stay(self) -> None:
         """Changes that were undone are forgotten, except the newest; the shortened journal has no more keys than the server."""

@@ -4,7 +4,7 @@ import assert from "node:assert/strict";
 import {test} from "node:test";
 
 import {findUndone, nextOf} from "../page/undo.mjs";
-import {loadPending, storePending} from "../page/storage.mjs";
+import {loadChosen, loadPending, loadSeats, storePending, storeSeat} from "../page/storage.mjs";
 
 const NONE = {undo: null, redo: null};
 const gestures = (...list) => list.map(([key, does]) => ({key, does}));
@@ -73,4 +73,22 @@ test("a tab knows when storing failed or nothing can be read", () => {
   const broken = storage();
   broken.setItem("pending", "{");
   assert.deepEqual(loadPending(broken), {at: "", gestures: []});
+});
+
+test("rubbish in the browser's storage is ignored", () => {
+  const kept = new Map();
+  globalThis.localStorage = {getItem: (name) => kept.get(name) ?? null, setItem: (name, text) => kept.set(name, text)};
+  for (const text of ["[null]", "null", "7", "{", "[[]]", '[{"seat":"1","key":"k"}]', '[{"seat":1}]', '[{"seat":1,"key":"k","chosen":7}]',
+                      '[{"seat":1,"key":"k","chosen":[null]}]', '{"0":{"seat":1,"key":"k"}}']) {
+    kept.set("seats", text);
+    assert.deepEqual([loadSeats(), loadChosen({seat: 1, key: "k"})], [[], []], text);
+  }
+  kept.set("seats", '[null,{"seat":2,"key":"l","chosen":["own"]},[]]');
+  storeSeat({seat: 1, key: "k"}, ["own", "shared"]);
+  assert.deepEqual(loadSeats(), [{seat: 2, key: "l", chosen: ["own"]}, {seat: 1, key: "k", chosen: ["own", "shared"]}]);
+  assert.deepEqual(loadChosen({seat: 1, key: "k"}), ["own", "shared"]);
+  delete globalThis.localStorage;
+  for (const text of ["null", "[null]", '{"at":7,"acts":7}', '{"acts":[null,7,["k"],["k",null],[7,{}]]}', "{"]) {
+    assert.deepEqual(loadPending({getItem: () => text}), {at: "", gestures: []}, text);
+  }
 });

@@ -8,8 +8,10 @@ import random
 import statistics
 import unittest
 from typing import Any, Sequence
+from unittest import mock
 
-from running import Case
+from running import Case, new_folder
+from server.figures.admission import Curves
 
 SEEDS, WARM_UP, STEPS = range(8), 1_500, 5_000
 T_7 = 2.365  # the quantile of Student's t with 7 degrees of freedom for an interval of 95 %
@@ -82,6 +84,23 @@ class Works(Case):
                 said = await ada.reply("capacity", at=ada.at, **{"first": 2, "last": 3, "cars": 900, "limit": 2, **fields})
                 self.assertEqual(said["refused"], name, said)
                 self.assertRegex(said["why"], why)
+
+    async def test_each_seat_has_its_turn(self) -> None:
+        """One asks for eight capacities at once, then another one for one: it waits for two of them at most."""
+        curves, order = Curves(new_folder()), list[int]()
+
+        async def measured(asked: Any, path: str) -> Any:
+            order.append(asked["cars"])
+            await asyncio.sleep(0.01)
+            return {"value": [asked["cars"], 2, 3, 4]}
+        with mock.patch.object(curves.child, "ask", measured):
+            asked = [asyncio.ensure_future(curves.find_works(1, {"cars": cars, "limit": 2, "drivers": (5, 0, None), "cells": 20}, ""))
+                     for cars in range(8)]
+            await asyncio.sleep(0)
+            await curves.find_works(2, {"cars": 99, "limit": 2, "drivers": (5, 0, None), "cells": 20}, "")
+            await asyncio.gather(*asked)
+        self.assertIn(99, order[:3])
+        self.assertEqual(sorted(order), [*range(8), 99])
 
     async def test_each_capacity_is_measured_once(self) -> None:
         """Two tabs ask at the same time, and one again after a restart. The folder keeps the answer, even if it is a refusal."""

@@ -5,6 +5,7 @@ As a child, this module answers an `Inflow` with its `Curve`, and `Works` with t
 from __future__ import annotations
 
 import asyncio
+import collections
 import contextlib
 import json
 from pathlib import Path
@@ -37,26 +38,27 @@ Values = TypedDict("Values", {"value": Capacity, "why": str}, total=False)
 
 
 class Curves:
-    """Measures one thing at a time, each only once: a file of the folder keeps the results over restarts."""
+    """Measures one thing at a time, for each seat in turn, and each thing only once: a file of the folder keeps the results over restarts."""
 
     def __init__(self, folder: Path) -> None:
         self.child: child.Child[Mapping[str, object], Mapping[str, object]] = child.Child(__name__, NICE)
         self._file = folder / CURVES_FILE
         self._kept = read_kept(self._file)
         self._lock = asyncio.Lock()
+        self._turns: collections.defaultdict[int, asyncio.Lock] = collections.defaultdict(asyncio.Lock)  # of each seat one question waits
 
-    async def find_curve(self, asked: Inflow, path: str) -> Curve:
-        """Return the curve of an inlet. A curve that is not known yet takes some seconds. `path` is that of road_lab."""
-        return cast(Curve, await self._find(asked, path))
+    async def find_curve(self, index: int, asked: Inflow, path: str) -> Curve:
+        """Return the curve of an inlet, for a seat. A curve that is not known yet takes some seconds. `path` is that of road_lab."""
+        return cast(Curve, await self._find(index, asked, path))
 
-    async def find_works(self, asked: Works, path: str) -> Values:
+    async def find_works(self, index: int, asked: Works, path: str) -> Values:
         """Return the values of the zones of works, or a sentence that says why works cannot leave this capacity."""
-        return cast(Values, await self._find(asked, path))
+        return cast(Values, await self._find(index, asked, path))
 
-    async def _find(self, asked: Mapping[str, object], path: str) -> Mapping[str, object]:
+    async def _find(self, index: int, asked: Mapping[str, object], path: str) -> Mapping[str, object]:
         key = to_json([MEASURE, asked])
         if key not in self._kept:
-            async with self._lock:
+            async with self._turns[index], self._lock:
                 if key not in self._kept:
                     self._keep(key, await self.child.ask(asked, path))
         return self._kept[key]

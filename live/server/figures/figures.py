@@ -25,7 +25,7 @@ from zegdrut.reports import Side
 
 from ..model.projection import Edits
 from ..program.program import import_lines
-from ..program.simulated_roads import first_step, rows_of
+from ..program.simulated_roads import rows_of
 from . import child
 
 SECONDS = 60.0  # seconds for a question; the next one resumes where this one stopped
@@ -135,7 +135,7 @@ class DrivenRoad:
         """Replace all edits by these rows of an import."""
         edits = edits_of(rows)
         changed = {key: edits.get(key) for key in sorted(edits.keys() | self._edits.keys()) if edits.get(key) != self._edits.get(key)}
-        self._edits, first = edits, first_step(changed)
+        self._edits, first = edits, min((step for _, _, step in changed), default=None)
         if first is not None:
             self._count += 1
             for line in import_lines("road", rows_of(changed, self._count)):

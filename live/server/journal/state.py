@@ -307,6 +307,9 @@ class State:
         self.lately.pop(index, None)
         for operation in self.seats[index].own:
             del self.makers[operation]
+        for replica in (self.shared, *self.seats):  # lists name the seat that made an operation
+            if replica.marks is not None:
+                replica.mark(sorted({line_of(replica.road, one) for one in self.seats[index].own if one in replica.places}))
         self.seats[index] = SeatReplica(index, self)
 
     def add_news(self, news: News) -> None:

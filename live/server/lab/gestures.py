@@ -22,7 +22,6 @@ from ..model.operations import About, Operation, Shape, Stamp, exclude, lift, pu
 from ..model.reading import Malformed
 from ..model.road import Road, change, repeat
 from ..program.program import Times
-from ..program.simulated_roads import first_step
 from .change_list import ListedOperation, Lister
 from .keeper import SHARED, Keeper, wait_until_written
 from .road_clock import RoadClock
@@ -182,7 +181,7 @@ class Lab:
             done = self._pending[index, key] = self.keeper.record(OwnOperation(index, operation, key))
             done.add_done_callback(lambda _: self._pending.pop((index, key), None))
             seat.adopt(after)
-            touched = await self._first_difference(before, after)
+            touched = await self.keeper.differences.first_change(before, after)
             return {"stamp": operation.stamp, "touched": touched, **self.list_of(seat, version)}, done
         return await self._write(index, make_once, times, takes_long=False)
 
@@ -209,10 +208,6 @@ class Lab:
         if not operation.sets:
             return "this change is on top already, or nothing of it is in force any more"
         return "the road already has these values"
-
-    async def _first_difference(self, before: Road, after: Road) -> int | None:
-        """Return the first step from which two roads differ."""
-        return first_step(await self.keeper.differences.between(before, after))
 
     async def _write(self, turn: int, make: Callable[[], Awaitable[tuple[T, Done | None]]], times: Times,
                      takes_long: bool | None = None) -> T:
@@ -269,7 +264,7 @@ class Lab:
             if given:
                 await self.keeper.require_writable()
                 done = self.keeper.record(Share(index, found, seat.name, title, int(time.time())))
-            return (found, await self._first_difference(before, shared.road)), done
+            return (found, await self.keeper.differences.first_change(before, shared.road)), done
         found, touched = await self._write(index, make, times)
         if found:
             self.keeper.listeners.shared.notify(touched)
@@ -286,9 +281,9 @@ class Lab:
                 done = self.keeper.record(Take(index, self.keeper.confirmed))
                 await seat.catch_up()
             shared = self.state.shared
-            edits = await self.keeper.differences.between(before, seat.road, (shared.upto(upto), shared.upto(seat.upto)))
+            touched = await self.keeper.differences.first_change(before, seat.road, (shared.upto(upto), shared.upto(seat.upto)))
             lister = Lister(self.state, seat)
-            return {"touched": first_step(edits), "size": len(came),
+            return {"touched": touched, "size": len(came),
                     "changes": [lister.operation(one) for one in came[-MOST_IN_TAKE:]], **self.list_of(seat, version)}, done
         return await self._write(index, make, times, takes_long=True)
 
@@ -317,7 +312,7 @@ class Lab:
             before, began = shared.road, time.thread_time()
             done = self.keeper.record(Arrival(fresh, fresh[0].about.who, title, int(time.time()), is_unsent=False))
             await shared.catch_up()
-            touched = await self._first_difference(before, shared.road)
+            touched = await self.keeper.differences.first_change(before, shared.road)
             times["work"] = time.thread_time() - began
             return (True, touched), done
         is_new, touched = await self._write(SHARED, make, times)

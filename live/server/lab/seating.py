@@ -14,7 +14,7 @@ import secrets
 import time
 from typing import Callable, TypedDict
 
-from ..base.names import fold_look_alikes
+from ..base.names import NO_NAME, fold_look_alikes, is_name
 from ..base.refusals import Refused
 from ..journal.entries import SeatRelease, SeatGrant, SeatUse
 from ..journal.state import SeatReplica, State
@@ -104,8 +104,8 @@ class Seating:
         return await self._give(index, self._state.seats[index].name)
 
     async def _new_seat(self, name: str) -> tuple[int, str]:
-        if not fold_look_alikes(name):
-            raise self._refuse_with_seats("NoName", "give a name of 1 to 64 characters, with one that can be seen")
+        if not is_name(name):
+            raise self._refuse_with_seats("NoName", NO_NAME)
         alike = self._find_similar_name(name)
         if alike is not None:
             hint = "" if alike == name else f", and {name} looks like it"

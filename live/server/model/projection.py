@@ -37,6 +37,33 @@ def difference(before: Road, after: Road, within: set[Stretch] | None = None) ->
     return edits
 
 
+def first_change(before: Road, after: Road, edits: Edits) -> int | None:
+    """Return the first step at which a value in force differs between two roads; None if there is none. `edits` turn one into the other.
+    (An edit of a slow-to-start chance may put what the slowing chance of its zone gives already.)"""
+    first = min((step for kind, _, step in edits if kind != "start"), default=END)
+    for zone in {index for kind, index, step in edits if kind == "start" and step < first}:
+        old, new = starts_in_force(before, zone), starts_in_force(after, zone)
+        values: list[int | None] = [None, None]
+        for step in sorted(old.keys() | new.keys()):
+            values = [old.get(step, values[0]), new.get(step, values[1])]
+            if values[0] != values[1]:
+                first = min(first, step)
+                break
+    return None if first == END else first
+
+
+def starts_in_force(road: Road, zone: int) -> dict[int, int]:
+    """Return the slow-to-start chances in force at a zone, by the first step of each; without a layer that is the slowing chance."""
+    plan = road.plan("slow", zone)
+    assert plan is not None
+    slow = {0: plan, **value_changes(road, "slow", zone, 0, END, road.on_object("slow", zone))}
+    found: dict[int, int] = {}
+    for since, until, layer in split_by_topmost(road.on_object("start", zone), 0, END):
+        found[since] = max((step, value) for step, value in slow.items() if step <= since)[1] if layer is None else value_of(layer)
+        found.update({step: value for step, value in slow.items() if since < step < until} if layer is None else {})
+    return found
+
+
 def difference_like(known: tuple[Road, Road, Edits], before: Road, after: Road) -> Edits:
     """Return the edits that turn `before` into `after`, given two other roads and their edits in `known`. Only stretches where these roads
     differ from the other two are computed, so seats that take the same operations share most of the work."""

@@ -2,6 +2,7 @@
 from __future__ import annotations
 
 import itertools
+from bisect import bisect
 from typing import Iterable, NamedTuple, TypeVar
 
 from .layers import Layer, columns, kinds_of, parts_of, rank, sort_from_top, split_by_topmost
@@ -52,23 +53,26 @@ def covered_rectangles(road: Road, line: Stamp) -> list[Rectangle]:
 
 
 def find_overruled(road: Road, line: Stamp) -> dict[Operation, Operation]:
-    """Return the operations on a line that have lost to another one, each with the operation that won. They count, but a later change
-    that was made without knowledge of them gives the line its shape. An undo has lost if a change that was based on the undone operation
-    is in force. If a redo made such an operation count again, the redo has lost."""
+    """Return the operations on a line that have lost to another one, each with the operation that won: the first one that counts and was
+    made without knowledge of it. Those that lost count, but a later change gives the line its shape. An undo has lost if a change that was
+    based on the undone operation is in force. If a redo made such an operation count again, the redo has lost."""
     counts = road.operations.counts
     setters = road.setters_of(line)
     by_stamp = {one.stamp: one for one in setters}
-    known: set[Operation] = set()
+    known: dict[Operation, None] = {}  # the latest first
     at, gap = road.setter(line), None
     while at is not None:
-        known.add(at)
+        known[at] = None
         gap = at.seen  # in the end a stamp that is missing here; all older operations count as known
         at = by_stamp.get(gap) if gap is not None else None
-    found = {one: min(other for other in known if one < other) for one in setters
-             if counts(one) and one not in known and (gap is None or one.stamp > gap)}
+    winners = [one for one in reversed(known) if counts(one)]
+    found = {one: winners[bisect(winners, one)] for one in setters if counts(one) and one not in known and (gap is None or one.stamp > gap)}
+    won = road.setter(line)
     for operation in known:
+        won = operation if counts(operation) else won
+        assert won is not None  # the first one of `known` counts
         below = by_stamp.get(operation.seen) if operation.seen is not None else None
-        found.update((each, operation) for each in (road.operations.undos_of(below) if below else ()) if counts(each))
+        found.update((each, won) for each in (road.operations.undos_of(below) if below else ()) if counts(each))
     return {last_redo(road, one): won for one, won in found.items()}
 
 

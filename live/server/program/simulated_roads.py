@@ -9,7 +9,7 @@ from typing import Deque
 from zegdrut.base.wire import WrittenEdit
 
 from ..base.json_values import to_json
-from ..model.projection import Edits, difference, difference_like
+from ..model.projection import Edits, difference, difference_like, first_change
 from ..model.road import Road
 from .program import Program, import_lines
 
@@ -21,11 +21,6 @@ MOST_DIFFERENCES = 16  # differences
 def rows_of(edits: Edits, count: int = 1) -> list[WrittenEdit]:
     """Return edits as rows of an import. Their stamps have a meaning only for the program."""
     return [(kind, index, step, count, STAMP_NUMBER, value) for (kind, index, step), value in edits.items()]
-
-
-def first_step(edits: Edits) -> int | None:
-    """Return the first step at which edits change a road; None if they change nothing."""
-    return min((step for _, _, step in edits), default=None)
 
 
 class Differences:
@@ -44,6 +39,13 @@ class Differences:
             found = await self._compute(before, after, known)
             self._known.append((before, after, found))
         return found
+
+    async def first_change(self, before: Road, after: Road, like: tuple[Road, Road] | None = None) -> int | None:
+        """Return the first step at which a value in force differs; None if there is none."""
+        edits = await self.between(before, after, like)
+        if len(before.layers) + len(after.layers) <= MOST_INLINE or not any(kind == "start" for kind, _, _ in edits):
+            return first_change(before, after, edits)
+        return await asyncio.get_running_loop().run_in_executor(None, first_change, before, after, edits)
 
     def _find_known(self, before: Road, after: Road) -> Edits | None:
         return next((edits for one, other, edits in self._known if one is before and other is after), None)

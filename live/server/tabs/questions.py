@@ -40,7 +40,6 @@ from ..model.road import Road
 from ..model.visibility import visible_rectangles
 from ..program import rows
 from ..program.program import LONG_ROAD, Times
-from ..program.simulated_roads import first_step
 from ..program.turns import MORE, Job, More
 from .seat_roads import SeatRoads
 
@@ -256,7 +255,7 @@ class Questions:
 
     # Demand
 
-    async def admission(self, inlet: int, start: int | None, before: list[tuple[int, int]]) -> Reply:
+    async def admission(self, index: int, inlet: int, start: int | None, before: list[tuple[int, int]]) -> Reply:
         """Return how many cars an inlet admits at each inflow chance, with the plan's drivers and the traffic from inlets upstream, whose
         indexes and chances are `before`. `start` is the slow-to-start chance of the inlet's zone at step 0, or None. An approach changes
         no flow, so it is left out."""
@@ -266,10 +265,10 @@ class Questions:
         free = leave_out_approach([place for place, _ in plan["inlets"]], self._units.origin)
         beside = sorted((free[one], chance_of) for one, chance_of in before if chance_of)
         entry = find_entry(plan, cell) if beside else 0
-        return await self._curves.find_curve({"limit": limit, "slowing": slowing, "start": start, "entry": entry,
+        return await self._curves.find_curve(index, {"limit": limit, "slowing": slowing, "start": start, "entry": entry,
                                               "cell": free[inlet] if beside else 0, "before": beside}, self._keeper.path)
 
-    async def capacity(self, road: Road, first: int, last: int, cars: int, limit: int) -> Reply:
+    async def capacity(self, index: int, road: Road, first: int, last: int, cars: int, limit: int) -> Reply:
         """Return the value of a shape of kind `capacity` on the zones `first` to `last`: works with a limit that leave some cars per hour
         of the plan's drivers."""
         plan = self._keeper.state.plan
@@ -278,7 +277,7 @@ class Questions:
         starts = [value_of(one) for one in road.on_object("start", first) if one.begin == 0 and road.layers[one.name].kind == "start"]
         speed, slowing = plan["zones"][first]
         cells = min((last + 1) * plan["zone"], plan["length"]) - first * plan["zone"]
-        found = await self._curves.find_works({"cars": cars, "limit": limit, "drivers": (speed, slowing, next(iter(starts), None)),
+        found = await self._curves.find_works(index, {"cars": cars, "limit": limit, "drivers": (speed, slowing, next(iter(starts), None)),
                                                "cells": cells}, self._keeper.path)
         if "why" in found:
             raise Refused("Range", found["why"])
@@ -309,9 +308,9 @@ class Questions:
         """Return the roads of a replica without and with some operations, and the lines of its list that they change."""
         before = replica.road
         after = before.adding(added)
-        edits = await self._keeper.differences.between(before, after)
+        touched = await self._keeper.differences.first_change(before, after)
         lines = await self._lines_of(replica, before, after, {one.stamp for one in added})
-        return (before, after), {"what": what, "size": len(added), "layers": lines, "touched": first_step(edits)}
+        return (before, after), {"what": what, "size": len(added), "layers": lines, "touched": touched}
 
     async def _lines_of(self, replica: Replica, before: Road, after: Road,
                         added: set[Stamp]) -> list[Line]:

@@ -10,7 +10,7 @@ from zegdrut.program.road_rows import FASTEST as FASTEST_CAR
 from zegdrut.reports.report_tables import MOST_SIDES
 
 from ..base.json_values import Json
-from ..base.names import fold_look_alikes
+from ..base.names import NO_NAME, is_name
 from ..base.refusals import Refused, not_a_command
 from ..journal.state import Replica
 from ..lab.fixed_roads import FILE, SIDES, VARIANT
@@ -169,7 +169,7 @@ def admission(asked: CommandFields) -> Handler:
         cell, *cells = (call.lab.state.plan["inlets"][one][0] for one in (inlet, *(one for one, _ in upstream)))
         if len({*cells}) < len(cells) or max(cells, default=-1) >= cell:
             raise Refused("Range", "`before` must list inlets upstream of this one, each once")
-        return await call.questions.admission(inlet, start, upstream)
+        return await call.questions.admission(call.index, inlet, start, upstream)
     return reply
 
 
@@ -177,7 +177,7 @@ def capacity(asked: CommandFields) -> Handler:
     """Read the zones of works, the cars per hour that they leave, and their limit."""
     first, last, cars = (asked.whole(name) for name in ("first", "last", "cars"))
     limit = asked.whole("limit", 0, FASTEST_CAR)
-    return lambda call: call.questions.capacity(call.replica.road, first, last, cars, limit)
+    return lambda call: call.questions.capacity(call.index, call.replica.road, first, last, cars, limit)
 
 
 # Commands that change, share or take
@@ -228,8 +228,8 @@ def share(asked: CommandFields) -> Handler:
 def variant(asked: CommandFields) -> Handler:
     """Read the name under which the road is kept, or the name of the variant that is removed."""
     name, is_dropped = asked.text("name", LONGEST_NAME), asked.flag("drop")
-    if not fold_look_alikes(name):
-        raise Refused("NoName", "give a name of 1 to 64 characters, with one that can be seen")
+    if not is_dropped and not is_name(name):
+        raise Refused("NoName", NO_NAME)
     return lambda call: call.lab.name_variant(call.index, call.times, name, not is_dropped)
 
 
