@@ -4,14 +4,10 @@ from __future__ import annotations
 import asyncio
 import hashlib
 import json
-import math
 import os
 import shutil
 import signal
-import statistics
 import subprocess
-import sys
-import time
 from pathlib import Path
 from typing import Any
 
@@ -19,31 +15,11 @@ from server.shell.client import Seat
 from zegdrut import Edit, RoadLab
 from server.model.operations import Stamp
 from server.sites.peers import BrokerState
-from server.sites.seals import Seal
 from faulty import written
-from running import SMALL, Broker, Case, Server, end, new_folder, started, until
+from running import SMALL, Broker, Case, Server, end, new_folder, until
 from server.journal.entries import read_plan_line
 
 TOTALS = {"from": 0, "to": 100}
-TURNS = 10  # at most, until no other program disturbs the measurement
-USUAL = 0.004  # seconds that a gesture takes on a machine that has nothing else to do
-# Publishes the messages of a file again and again, each with its topic.
-FLOOD = """
-import json, sys, time
-import paho.mqtt.client as mqtt
-port, path, most = int(sys.argv[1]), sys.argv[2], int(sys.argv[3])
-client = mqtt.Client(protocol=mqtt.MQTTv5)
-client.connect("127.0.0.1", port)
-client.loop_start()
-messages = [(topic, bytes.fromhex(text)) for topic, text in json.load(open(path))]
-began, sent = time.monotonic(), 0
-print("begins", flush=True)
-while True:
-    for topic, payload in messages:
-        client.publish(topic, payload)
-        sent += 1
-    time.sleep(max(0, began + sent / most - time.monotonic()))
-"""
 
 
 async def put(seat: Seat, kind: str, index: int, begin: int, value: int, end: int | None = None) -> Stamp:
@@ -332,60 +308,6 @@ class Brokers(Case):
     async def test_a_broker_on_another_host_requires_a_password(self) -> None:
         with self.assertRaisesRegex(RuntimeError, "give --broker-user and --broker-password"):
             self.server("--broker", "192.0.2.1:8883")
-
-
-class Floods(Case):
-    """During a flood of messages a gesture takes at most twice as long as during the same flood beside the server."""
-
-    async def asyncSetUp(self) -> None:
-        self.here = self.broker()
-        self.key = new_folder() / "key"
-        self.key.write_text("a secret of the sites")
-        self.one = self.server("--broker", self.here.address, "--site-key", str(self.key))
-        self.road = road_of(self.one.journal()[0]["lab"]["plan"], self.key.read_bytes())
-        self.seal = Seal(self.key.read_bytes())
-
-    async def median(self, seat: Seat, messages: list[tuple[str, bytes]], most: int) -> float:
-        """Return the median time of a gesture while these messages come, as many in a second."""
-        path = new_folder() / "messages"
-        path.write_text(json.dumps([(topic, payload.hex()) for topic, payload in messages]))
-        flood = started([sys.executable, "-c", FLOOD, str(self.here.port), str(path), str(most)], stdout=subprocess.PIPE)
-        assert flood.stdout is not None
-        await asyncio.to_thread(flood.stdout.readline)
-        await asyncio.sleep(1)
-        took = list[float]()
-        for _ in range(40):
-            began = time.perf_counter()
-            await seat.ask("gesture", key=os.urandom(8).hex(), shape=["limit", 2, 2, 50, None, len(took) % 5])
-            took.append(time.perf_counter() - began)
-        self.assertIsNone(flood.poll(), "the flood ended")
-        end(flood)
-        return statistics.median(took)
-
-    def sealed(self, *operations: Any, length: int = 0) -> tuple[str, bytes]:
-        topic = f"road/{self.road}/operations"
-        body = json.dumps({"form": 4, "operations": operations}).encode()
-        return topic, self.seal.seal(topic, body + b" " * max(0, length - len(body)))
-
-    async def test_a_gesture_takes_at_most_twice_as_long(self) -> None:
-        good = [written(count, shape=["limit", 1, 1, count, None, 1], who="Eve") for count in range(1, 6)]
-        refused = [written(count, shape=["limit", 99, 99, count, None, 1], who="Eve") for count in range(1, 2_001)]
-        announced = json.dumps({"form": 4, "site": "eve-00000000", "host": "there", "road": self.road, "count": 0}).encode()
-        floods: list[tuple[str, list[tuple[str, bytes]], int]] = [
-            ("unsealed", [("road/sites", b'{"form":4}'), (f"road/{self.road}/operations", b"x" * 300)], 3_000),
-            ("played again", [self.sealed(one) for one in good] + [("road/sites", self.seal.seal("road/sites", announced))], 2_000),
-            ("refused", [self.sealed(*refused[place:place + 500], {"x": place}) for place in range(0, 2_000, 100)], 30)]
-        async with self.one.seat("Ada") as ada:
-            for what, messages, most in floods:
-                elsewhere = [("elsewhere", payload) for _, payload in messages]
-                quiet = loud = math.inf
-                for _ in range(TURNS):
-                    slower = max(1.0, await self.median(ada, elsewhere, most) / USUAL)  # than a machine that has nothing else to do
-                    rate = max(1, round(most / slower))
-                    quiet, loud = await self.median(ada, elsewhere, rate), await self.median(ada, messages, rate)
-                    if loud <= 2 * quiet:
-                        break
-                self.assertLessEqual(loud, 2 * quiet, f"{what}: {1e3 * loud:.1f} ms instead of {1e3 * quiet:.1f} ms")
 
 
 def memory_of(server: Server) -> int:

@@ -1,6 +1,7 @@
 """Test hostile sites and tabs: what they send is checked and bounded, and floods are ignored."""
 from __future__ import annotations
 
+import itertools
 import json
 import random
 import re
@@ -124,6 +125,13 @@ class Bounds(Case):
                    for count in range(1, 301)]
         message = message_of(second, *refused)
         before = len(first.state()["told"])
+        with mock.patch("server.sites.sites.READ_FOR", 1e9), mock.patch("server.sites.sites.thread_time", side_effect=itertools.count(0, 1.1)):
+            await first._receive(message.topic, second._seal.run, message_of(second, refused[1]).payload)  # 3.3 seconds: 1.1 for its text
+            self.assertFalse(first._floods.count_message(second._seal.run))
+            await first._receive(message.topic, second._seal.run, message_of(second, refused[1]).payload)
+            self.assertTrue(first._floods.count_message(second._seal.run))
+        first._floods = Floods(lambda: 0.0)
+        first._told.clear()
 
         def worked() -> float:
             work[0] += 0.01

@@ -4,14 +4,12 @@ from __future__ import annotations
 import asyncio
 import contextlib
 import json
-import math
 import os
 import signal
-import statistics
-import sys
+import socket as sockets
 import time
 from pathlib import Path
-from typing import Any, AsyncIterator
+from typing import Any
 from unittest import mock
 
 import aiohttp
@@ -20,12 +18,11 @@ from server.tabs import verbs
 from server.tabs.fields import CommandFields
 from server.base.refusals import Refused
 from server.shell.client import Seat
-from server.tabs.new_connections import Strangers, address_group
+from server.tabs.new_connections import ENTRY_BURST, MOST_QUEUED, Doors, Strangers, address_group
 from server.tabs.tabs import Tab, parse_frame
-from running import PATIENCE, SMALL, Case, Server, end, started, transport_of, until
+from running import PATIENCE, SMALL, Case, Server, transport_of, until
 from working import takes_at_most
 
-TURNS = 10  # at most, until no other program disturbs the measurement
 
 
 class Frames(Case):
@@ -287,29 +284,6 @@ class Connection(asyncio.Transport):
         self.transport = None
 
 
-MOST = 690  # connections a second of a flood
-USUAL = 0.004  # seconds that a gesture takes on a machine that has nothing else to do
-# The requests of these connections. The connections of the kind `close` are closed at once.
-UPGRADE = ("Origin: http://{host}\r\nUpgrade: websocket\r\nConnection: Upgrade\r\nSec-WebSocket-Version: 13\r\n"
-           "Sec-WebSocket-Key: AAAAAAAAAAAAAAAAAAAAAA==\r\n")
-FLOODS = {"silent": "", "close": "", "page": "GET / HTTP/1.1\r\nHost: {host}\r\n\r\n",
-          "tab": "GET /live HTTP/1.1\r\nHost: {host}\r\n" + UPGRADE + "\r\n"}
-FLOOD = """
-import socket, sys, time
-_, host, port, kind, request, rate = sys.argv
-held, begin = [], time.monotonic()
-for number in range(1_000_000):
-    time.sleep(max(0, begin + number / int(rate) - time.monotonic()))
-    try:
-        one = socket.create_connection((host, int(port)))
-        one.close() if kind == "close" else held.append(one)
-        one.sendall(request.encode()) if request else None
-    except ConnectionError:  # the server has closed it already
-        pass
-    held = held[-500:]
-"""
-
-
 class Crowds(Case):
     def test_a_network_of_one_host_counts_as_one_address(self) -> None:
         for one, other, is_one in (("1.2.3.4", "1.2.3.5", False), ("2001:db8::1", "2001:db8::ffff:2", True), ("::1", "::1", True),
@@ -353,53 +327,42 @@ class Crowds(Case):
             await until(lambda: self.are_few(server), "most of them are cut")
             self.assertEqual((await ada.reply("ping"))["pong"], {})
 
-    async def test_a_flood_from_its_own_address_keeps_no_tab_out_and_slows_no_gesture(self) -> None:
-        """A gesture takes at most twice as long as during the same flood at another server. A slow machine gets a slower flood. A tab tries
-        three times, since it is cut if this process is too slow to send its request."""
-        server, other = self.server(), self.server()
-        async with server.seat("Ada") as ada:
-            for kind in FLOODS:
-                quiet = loud = math.inf
-                for _ in range(TURNS):
-                    rate = round(MOST / max(1.0, await self.median(ada, other, kind, MOST) / USUAL))
-                    quiet, loud = await self.median(ada, other, kind, rate), await self.median(ada, server, kind, rate)
-                    if loud <= 2 * quiet:
-                        break
-                self.assertLessEqual(loud, 2 * quiet, f"{kind}: {1e3 * loud:.1f} ms instead of {1e3 * quiet:.1f} ms")
-                async with self.flood(server, kind, rate):
-                    await asyncio.sleep(2)
-                    for number in range(5):
-                        await self.enter(server, f"{kind} {number}")
+    async def test_a_flood_from_its_own_address_keeps_no_tab_out(self) -> None:
+        """A connection with the token enters before 200 further ones of the same address do."""
+        entered = list[int]()
 
-    async def enter(self, server: Server, name: str) -> None:
-        for tries_left in (2, 1, 0):
-            try:
-                async with server.seat(name) as seat:
-                    self.assertEqual((await seat.reply("ping"))["pong"], {})
-                return
-            except (ConnectionError, aiohttp.ClientError):
-                if not tries_left:
-                    raise
+        class Entered(asyncio.Protocol):
+            def connection_made(self, transport: asyncio.BaseTransport) -> None:
+                entered.append(transport.get_extra_info("peername")[1])
+        door = sockets.create_server(("127.0.0.1", 0), backlog=1_024)
+        doors = Doors([door], Entered, None, "a token of the server")
+        doors.open()
+        tasks = [asyncio.create_task(doors.serve())]
 
-    async def median(self, seat: Seat, server: Server, kind: str, rate: int) -> float:
-        """Return the median time of a gesture during a flood at this server."""
-        took = list[float]()
-        async with self.flood(server, kind, rate):
-            await asyncio.sleep(1)
-            for number in range(40):
-                began = time.perf_counter()
-                await seat.ask("gesture", key=os.urandom(8).hex(), shape=["limit", 2, 2, 50, None, number % 5])
-                took.append(time.perf_counter() - began)
-        return statistics.median(took)
+        async def end_all() -> None:
+            for task in tasks:
+                task.cancel()
+            await asyncio.gather(*tasks, return_exceptions=True)
+            doors.close()
+        self.addAsyncCleanup(end_all)
 
-    @contextlib.asynccontextmanager
-    async def flood(self, server: Server, kind: str, rate: int) -> AsyncIterator[None]:
-        """Open `rate` connections a second to a server in this block. Fail if that ends before the block does."""
-        host = server.address.partition("/#")[0].rpartition("/")[2]
-        process = started([sys.executable, "-c", FLOOD, *host.split(":"), kind, FLOODS[kind].format(host=host), str(rate)])
-        yield
-        self.assertIsNone(process.poll(), "the flood ended")
-        end(process)
+        async def connect(query: str) -> int:
+            _, writer = await asyncio.open_connection(*door.getsockname()[:2])
+            self.addCleanup(writer.close)
+            writer.write(f"GET /{query} HTTP/1.1\r\nHost: x\r\n\r\n".encode())
+            return int(writer.get_extra_info("sockname")[1])
+
+        async def flood() -> None:
+            while True:
+                await asyncio.gather(*(connect(query) for query in ("", "live?another%20token", "live") for _ in range(50)))
+        tasks.append(asyncio.create_task(flood()))
+        for _ in range(3):
+            while len(entered) < ENTRY_BURST or max(map(len, doors._waiting.values()), default=0) < MOST_QUEUED:
+                await asyncio.sleep(0.01)
+            before, own = len(entered), await connect("live?a%20token%20of%20the%20server")
+            while own not in entered:
+                self.assertLess(len(entered), before + 200)
+                await asyncio.sleep(0.01)
 
     async def are_few(self, server: Server) -> bool:
         """Return whether the server has few files and sockets open."""
