@@ -26,7 +26,7 @@ import {renewFixed, takeVariants} from "./variants.mjs";
 /** @typedef {import("./types.mjs").Pushed} Pushed */
 /** @typedef {{welcome: Welcome} | (Refusal & {seats?: Seat[]})} HelloAnswer */
 
-const TAB_FORM = 7;             // version of the protocol with the server
+const TAB_FORM = 8;             // version of the protocol with the server
 const REPLACED_SHOWN = 60_000;  // milliseconds for which the page shows that the program was restarted
 /** @type {(name: string) => string} */
 const stored = (name) => sessionStorage.getItem(name) ?? "";

@@ -26,7 +26,7 @@ from .entries import (NewsList, Arrival, Clock, Entry, Fields, Folder, Keys, Nam
                       Works, read_entry)
 from .naming import Counter
 
-TAB_FORM = 7  # the protocol of tabs
+TAB_FORM = 8  # the protocol of tabs
 SITE_FORM = 4  # the protocol of sites
 MOST_NEWS = 100
 MOST_FORGOTTEN_KEYS = 1_000  # keys of a seat whose operations were forgotten
