@@ -12,7 +12,7 @@ from unittest import mock
 
 from zegdrut.base.wire import PlanLine
 from zegdrut.figures import FREEWAY, Value
-from zegdrut.figures.queues import Ends
+from zegdrut.figures.queues import NOBODY_WAITS, Ends
 
 from faulty import Here, soon
 from figures_told import SIDES, mine, of_side, value
@@ -51,8 +51,8 @@ class Days(Case):
         self.here.keeper.settings = Settings(days=days)
 
     async def change(self, here: Here, seat: int) -> None:
-        """Make a jam that reaches the inlets, and change the demand of one of them."""
-        await here.ask(seat, "gesture", key="jam", shape=["block", 50, 50, 60, 150, 1])
+        """Make a jam that does not reach the inlets, and change the demand of one of them."""
+        await here.ask(seat, "gesture", key="jam", shape=["block", 90, 90, 60, 75, 1])
         await here.put(seat, ["inflow", 1, 30, 20_000])
 
     def program_that(self, does: str) -> tuple[str, Path]:
@@ -96,8 +96,7 @@ class Days(Case):
         self.over(3)
         said = await soon(self.here.ask(self.ada, "days", of=mine(self.ada), **SPAN))
         self.assertEqual((said["from"], said["to"], said["days"], said["stopped"]), (20, 200, 3, False))
-        lost = [[value(day, side, "lost") for day in of_days] for side in ("before", "after")]
-        self.assertGreater(sum(lost[1]), sum(lost[0]))
+        self.assertGreater(sum(value(day, "difference", "delay") for day in of_days), 0)
         self.are_means(said, of_days)
         self.assertEqual(self.heard, [(self.ada, done, 3) for done in (1, 2, 3)])
 
@@ -126,7 +125,7 @@ class Days(Case):
 
         def ended(_make: object, seeds: Sequence[int]) -> Iterator[tuple[int, comparison.Day]]:
             for place in (1, 0, 2):
-                yield place, comparison.Day([[Value(2.0 ** place, 2.0 ** place, 0.0)] * len(figures)], [Ends()])
+                yield place, comparison.Day([[Value(2.0 ** place, 2.0 ** place, 0.0)] * len(figures)], [Ends()], [NOBODY_WAITS] * 2)
         road = {"name": "a", "edits": [], "demands": [[(0, 500.0)] for _ in SMALL["inlets"]]}
         compared: Any = {"plan": SMALL, "roads": [road, road], "first": 20, "last": 200, "program": str(program()), "origin": 0}
         with mock.patch("server.figures.comparison.iterate_days", ended):

@@ -50,9 +50,9 @@ class TwoTabs(BrowserCase):
         tab.until(lambda: tab.text("clock") == "0:15:00", "the clock")
         tab.show(900)
 
-    def closed(self, tab: Tab) -> None:
+    def closed(self, tab: Tab, until: str = "0:07") -> None:
         tab.tool("block")
-        tab.type_and_apply(kmFrom="0.18", kmTo="0.19", timeFrom="0:05", timeTo="0:07")
+        tab.type_and_apply(kmFrom="0.18", kmTo="0.19", timeFrom="0:05", timeTo=until)
 
     def test_many_days_compare_mine_with_shared_and_a_preview(self) -> None:
         ada, _ = self.over_three(SEEDED)
@@ -62,7 +62,8 @@ class TwoTabs(BrowserCase):
         ada.until(lambda: " of 3 days" in ada.text("days"), "how far it is")
         found = over_days(ada, "#over")
         self.assertFalse(ada.part("oneDay").is_displayed())
-        self.assertEqual(list(found), ["delay, vehicle hours", "vehicle hours on the road", "lost demand, cars",
+        self.assertEqual(list(found), ["delay, vehicle hours", "vehicle hours on the road", "vehicle hours waiting before km 0", "longest queue before km 0, cars",
+                                       "end of the queue before km 0, min after the begin", "vehicle hours on the road and before it", "lost demand, cars",
                                        "travel time from km 0 to the end, s", "cars at km 0.21"])
         # Below the cars is their travel time from the inlet, with its interval.
         trips = ada.script("return [...document.querySelectorAll('#over tbody .seconds')].map((one) => one.textContent)")
@@ -72,11 +73,13 @@ class TwoTabs(BrowserCase):
         self.assertIn("Over 3 days, 0:00:00 to 0:15:00", ada.text("over"))
         mine, shared, more = map(numbers, found["vehicle hours on the road"])
         self.assertAlmostEqual(more[0], mine[0] - shared[0], delta=0.011)
-        # Some 0.4 cars arrive in a second, 50 in two minutes, apart from those that fit into the queue.
-        lost = numbers(found["lost demand, cars"][2])
-        self.assertTrue(5 < lost[0] < 60 and lost[1] < lost[0], lost)
-        # Both roads have the same drivers on a day, so the interval of the difference is far narrower than theirs.
-        self.assertLess(numbers(found["cars at km 0.21"][2])[1], numbers(found["cars at km 0.21"][1])[1])
+        # Some 0.4 cars arrive in a second, 50 in two minutes, apart from those that fit into the queue. They wait, and none is lost.
+        longest = numbers(found["longest queue before km 0, cars"][2])
+        self.assertTrue(5 < longest[0] < 60 and longest[1] < longest[0], longest)
+        self.assertEqual(found["lost demand, cars"][0].split()[0], "0")
+        # Both roads have the same drivers on a day, and all of them pass in the end.
+        self.assertGreater(numbers(found["cars at km 0.21"][1])[1], 0)
+        self.assertEqual(found["cars at km 0.21"][2], "0 the same each day")
         ada.press("Share…: Closed")
         preview_rows(ada)
         ada.press("Over 3 days", "#preview")
@@ -134,13 +137,14 @@ class TwoTabs(BrowserCase):
         self.assertTrue(ada.part("oneDay").is_displayed())
 
     def test_saved_scripts_of_both_roads_are_compared_unchanged(self) -> None:
+        """Compare a closure that is so short that no car has to wait before the road."""
         ada, = self.over_three(SEEDED)[:1]
         self.run_a_quarter(ada)
-        self.closed(ada)
+        self.closed(ada, until="0:05:08")
         saved = ada.save_both("Script", "script.jsonl")
         hours = ada.script("return [...document.querySelectorAll('#figures tbody tr')].find((line) => "
                            "line.firstChild.textContent === 'vehicle hours on the road').lastChild.textContent")
-        choices: list[list[str]] = [["--no-queue"], ["--days", "2"]]
+        choices: list[list[str]] = [[], ["--days", "2"]]
         for words in choices:
             ran = subprocess.run([TOP / "recipes" / "delay" / "run", *words, "--out", new_folder(), *reversed(saved)],
                                  stdout=subprocess.PIPE, stderr=subprocess.PIPE, text=True, check=False)

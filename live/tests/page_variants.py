@@ -5,7 +5,10 @@ from __future__ import annotations
 import re
 from typing import Any
 
+from zegdrut.figures import Window, compute_vehicle_hours
+
 from browsers import COLOURS, BrowserCase, Tab
+from figures_told import run_with_queue
 from raw_figures import Run, Wanted, figures_of
 from running import SMALL
 
@@ -62,10 +65,12 @@ class Variants(BrowserCase):
                 one.querySelector("input").click();""", road)
         self.tab.settled()
 
-    def run_of(self, name: str) -> Run:
+    def edits_of(self, name: str) -> list[Any]:
         begin, end = CLOSED.get(name, (0, 0))
-        edits = [["block", CELL, begin, 1, 64, 1], ["block", CELL, end, 2, 64, 0]] if end else []
-        return Run({**SMALL, "replicas": ["road"]}, edits, STEPS)
+        return [["block", CELL, begin, 1, 64, 1], ["block", CELL, end, 2, 64, 0]] if end else []
+
+    def run_of(self, name: str) -> Run:
+        return Run({**SMALL, "replicas": ["road"]}, self.edits_of(name), STEPS)
 
     def table(self, tab: Tab, ident: str) -> tuple[list[str], dict[str, list[str]]]:
         """Return the heads of a table of figures, and its rows by their names."""
@@ -127,7 +132,8 @@ class Variants(BrowserCase):
         tab.until(lambda: tab.text("over").startswith("Over 2 days, 0:00:00 to 0:10:00"), "the days")
         heads, rows = self.table(tab, "over")
         self.assertEqual(heads, ["“night”", "“noon”", "shared", "“noon” −\xa0“night”", "shared −\xa0“night”"])
-        hours = [[Run({**SMALL, "words": day}, self.run_of(name).edits, STEPS).hours(0, STEPS) for day in (1, 2)] for name in ("night", "noon", "shared")]
+        hours = [[compute_vehicle_hours(run_with_queue({**SMALL, "words": day}, self.edits_of(name), 0, STEPS).trips, Window(0, STEPS)) for day in (1, 2)]
+                 for name in ("night", "noon", "shared")]
         means = [sum(one) / 2 for one in hours]
         found = [number(text) for text in rows["vehicle hours on the road"]]
         for text, value in zip(found, [*means, means[1] - means[0], means[2] - means[0]], strict=True):

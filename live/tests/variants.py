@@ -10,12 +10,15 @@ from pathlib import Path
 from typing import Any, Sequence
 from unittest import mock
 
+from zegdrut.figures import RoadRun, Window, compute_vehicle_hours
+from zegdrut.figures.trips import compute_delay
 from zegdrut.program import Script
 from zegdrut.program.scripts import open_edited
 
 from faulty import Disk, Here, soon, written
+from figures_told import run_with_queue
 from oracle import by_rows, oracle_of
-from raw_figures import STEPS, Run, compare as compare_runs, figures_of, random_plan, random_shapes
+from raw_figures import STEPS, Run, figures_of, random_plan, random_shapes
 from running import SMALL, Case, descendants, new_folder, program, until
 from server.base.settings import Settings
 from server.lab.gestures import MOST_VARIANTS
@@ -421,6 +424,10 @@ class Compared(Case):
     def run_of(self, at: str, day: int = 0) -> Run:
         return Run({**self.here.plan, "words": self.here.plan["words"] + day}, self.edits[at], STEPS)
 
+    def day_of(self, at: str, day: int, first: int, last: int) -> RoadRun:
+        """Return a day on which cars that cannot enter wait before the road."""
+        return run_with_queue({**self.here.plan, "words": self.here.plan["words"] + day}, self.edits[at], first, last)
+
     def are(self, said: Any, of: Sequence[str], first: int, last: int) -> None:
         """Check each figure of one day: the value on each road, and each later road minus the first."""
         runs = [self.run_of(at) for at in of]
@@ -461,10 +468,10 @@ class Compared(Case):
         self.here.keeper.settings = Settings(days=3)
         of, (first, last) = ["shared", "variant:noon", "variant:night"], (60, 400)
         said = await soon(self.here.ask(self.seat, "days", of=of, **{"from": first, "to": last}))
-        days = [[self.run_of(at, day) for at in of] for day in range(3)]
+        days = [[self.day_of(at, day, first, last) for at in of] for day in range(3)]
         rows = {row["figure"]["key"]: row for row in said["figures"]}
-        hours = [[run.hours(first, last) for run in day] for day in days]
-        delays = [[compare_runs(day[0], run, first, last)["delay_hours"] for run in day[1:]] for day in days]
+        hours = [[compute_vehicle_hours(run.trips, Window(first, last)) for run in day] for day in days]
+        delays = [[compute_delay(day[0].by_arrival, run.by_arrival, Window(first, last)).seconds / 3_600 for run in day[1:]] for day in days]
         for place in range(3):
             self.assertAlmostEqual(rows["hours"]["values"][place][0], statistics.mean(day[place] for day in hours), 7)
         for place in range(2):
@@ -482,7 +489,7 @@ class Compared(Case):
             self.assertEqual(found, {(kind, index, step): value for kind, index, step, *_, value in edits if value is not None}, at)
 
     async def test_a_report_has_a_column_for_each_road(self) -> None:
-        """It says what the figures say: the columns are the roads, and each later one is compared with the first."""
+        """It says what the figures of days say: the columns are the roads, and each later one is compared with the first."""
         of, span = ["shared", f"seat{self.seat}", "variant:night", "file"], {"from": 60, "to": 300}
         with mock.patch("server.figures.report.DAYS", 2):
             html = (await soon(self.here.ask(self.seat, "report", of=of, title="Four", works=["a"], **span)))["html"]
@@ -491,6 +498,6 @@ class Compared(Case):
         later = "".join(f"<th>{name}</th><th>±</th><th></th>" for name in ("Ada", "“night”", "file"))
         self.assertIn(f"<th>difference from shared, per lane</th>{later}", html)
         self.assertEqual(html.count('class="field"'), 4)
-        hours = [statistics.mean(self.run_of(at, day).hours(60, 300) for day in range(2)) for at in of]
+        hours = [statistics.mean(compute_vehicle_hours(self.day_of(at, day, 60, 300).trips, Window(60, 300)) for day in range(2)) for at in of]
         line = html.partition("<td>vehicle hours on the road</td>")[2].partition("</tr>")[0]
         self.assertEqual([cell.partition("<")[0] for cell in line.split("<td>")[1::2]], [f"{one:,.2f}" for one in hours])

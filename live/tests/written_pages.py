@@ -27,10 +27,11 @@ def rows_of(page: str) -> dict[str, list[str]]:
 
 class Reports(Case):
     async def test_a_report_of_one_day_has_the_figures_of_the_page(self) -> None:
+        """Nobody waits before the road at first. Then a queue reaches its inlet: in the report cars wait there, and on the page they are lost."""
         async with Here(plan={**SMALL, "words": "steady"}) as here:
             seat, = await here.join("Ada")
             await here.lab.road_clock.set_clock(to=600)
-            await here.ask(seat, "gesture", key="1", shape=["block", 60, 60, 120, 300, 1])
+            await here.ask(seat, "gesture", key="1", shape=["block", 90, 90, 120, 135, 1])
             await here.ask(seat, "gesture", key="2", shape=["watch", 2, 2, 200, 400, 0])
             page = (await soon(here.ask(seat, "report", **ASKED, **SPAN)))["html"]
             figures = await soon(here.ask(seat, "figures", of=mine(seat), **SPAN))
@@ -41,11 +42,15 @@ class Reports(Case):
                     ("km 0.825: cars/h", 0, [value(figures, side, "flow", None, 2) for side in ("before", "after")])):
                 shared, _, own, _, *_ = rows[name]
                 self.assertEqual([shared, own], [f"{one:,.{digits}f}" for one in values], name)
-            hours, = (row for row in figures["figures"] if row["figure"]["key"] == "hours")
-            self.assertIn(f"vehicle hours on the road ({hours['bounds'][0]})", page)
-            self.assertIn("Cars that cannot enter are lost: ", page)
             self.assertEqual(rows["delay, vehicle hours"][4], f"{value(figures, 'difference', 'delay'):.2f}")
             self.assertEqual(value(figures, "after", "on", None, 2), 340)
+            await here.ask(seat, "gesture", key="3", shape=["block", 60, 60, 120, 300, 1])
+            page = (await soon(here.ask(seat, "report", **ASKED, **SPAN)))["html"]
+            figures = await soon(here.ask(seat, "figures", of=mine(seat), **SPAN))
+            hours, = (row for row in figures["figures"] if row["figure"]["key"] == "hours")
+            self.assertRegex(hours["words"], r"^Cars that cannot enter are lost: .*; hours and delay leave them out; in the comparison over days they wait before the road\.$")
+            self.assertEqual((hours["bounds"], "are lost: " in page, float(rows_of(page)["vehicle hours waiting before km 0"][2]) > 0), (["at least"], False, True))
+            self.assertGreater(float(rows_of(page)["delay, vehicle hours"][4]), value(figures, "difference", "delay"))
             with self.assertRaises(Refused) as caught:
                 await here.ask(seat, "report", **ASKED, **SPAN, days=2)
             self.assertEqual(caught.exception.text, "OneDay")

@@ -63,6 +63,18 @@ class Cells(unittest.TestCase):
         self.assertEqual(warm_up_minutes(dataclasses.replace(PLAIN, length=6, approach=10)), 15)
         self.assertEqual(road.notes, [])
 
+    def test_a_demand_that_changes_before_the_first_cars_reach_km_0(self) -> None:
+        """Let cars enter as many steps earlier as they need to km 0. What changes before the first of them are there is in force from the beginning, and
+        each step has the demand that is at km 0 that much later."""
+        demand = [(0, 500), (0.5, 600), (1, 700), (2, 800), (9, 400)]
+        road = make_road(dataclasses.replace(PLAIN, length=3, approach=3.0, main=demand))
+        self.assertEqual(road.early, 83)
+        (_, rates), = road.inlets
+        for step in range(600):
+            wanted = [cars for minute, cars in demand if minute * 60 <= step + 83][-1]
+            self.assertEqual([cars for begin, cars in rates if begin <= step][-1], wanted)
+        self.assertEqual(rates, [(0, 700), (37, 800), (457, 400)])
+
     def test_the_entry_is_at_the_head(self) -> None:
         """Nobody is slowed at the head of the approach, where cars enter."""
         road = make_road(dataclasses.replace(PLAIN, approach=1.5, entry=0.3))
@@ -73,13 +85,17 @@ class Cells(unittest.TestCase):
     def test_the_longest(self) -> None:
         """Zones of 0.1 km, which are 13 cells, make 62 of a road of 6 km, and leave two. Zones of 0.5 km, which are 67 cells, leave 52. Without a width
         the 8,192 cells leave what is not the road: 7,392. Zones become wide enough for the approach, and fit the works."""
-        for zone, approach, least in ((0.1, 0.2, 0.195), (0.5, 27, 26.13), (None, 55.5, 55.44)):
+        for zone, approach, least in ((0.1, 0.3, 0.195), (0.5, 27, 26.13), (None, 55.5, 55.44)):
             with self.assertRaises(Fault) as found:
                 make_road(dataclasses.replace(PLAIN, length=6, zone=zone, approach=approach))
             zones = "" if zone is None else f" with zones of {zone:g} km"
             self.assertEqual(str(found.exception), f"approach {approach:g} km is too long: a road of 6 km{zones} leaves {least:g} km, because approach and "
                              f"road together have at most 64 zones and 8,192 cells: use at most {least:g} km" + ("" if zone is None else ", or use wider zones"))
             make_road(dataclasses.replace(PLAIN, length=6, zone=zone, approach=least))
+        # With zones of 54 cells a road of 810 cells has 15 zones, and leaves 49, which are 19.845 km.
+        rounded = make_road(dataclasses.replace(PLAIN, length=6.075, zone=0.405, approach=20))
+        self.assertEqual((rounded.zones, rounded.approach), (64, 2_646))
+        self.assertIn("an approach of 20 km: rounded to 19.845 km", rounded.notes)
         for length, approach, works in ((6, 10, (3, 3.5)), (2, 0.1, (1, 1.2)), (20, 40, (5, 5.1)), (60, 0.9, (1, 2)), (1.6, 50, (0.3, 0.4))):
             road = make_road(dataclasses.replace(PLAIN, length=length, approach=approach, sections=[Section(*works, 0, 10, limit=54)]))
             self.assertTrue(road.zones <= 64 and road.length <= 8_192 and road.approach and road.approach % road.zone == 0, road)

@@ -126,21 +126,30 @@ check: cars in all rows,,,,0.500
             except (Fault, Refused) as error:
                 self.check(wanted, str(error), wanted)
 
-    def test_without_queues(self) -> None:
-        """Compare the output of a day on which cars that cannot enter are lost with the simulator's. In the table of inlets 24 and 37 fewer cars
-        enter. So the figures are bounds, on one day and over days, and in the other direction if the scripts change places."""
+    def test_zones_before_which_no_car_can_wait(self) -> None:
+        """Close a road whose first zone has 400 cells: its cars are lost, so the figures are bounds, on one day and over days, and in the other
+        direction if the scripts change places. As many are lost as the table of inlets has fewer entries. With zones of 200 cells they wait."""
         with tempfile.TemporaryDirectory() as folder:
-            ran = subprocess.run([RECIPE / "run", "--no-queue", "--out", folder], capture_output=True, text=True, check=False)
-            self.check("no queue", ran.stdout, (RECIPE / "no_queue.expected").read_text(encoding="utf-8"))
-            scripts = [RECIPE / "with_works.jsonl", RECIPE / "without_works.jsonl"]
-            ran = subprocess.run([RECIPE / "run", "--no-queue", "--out", folder, *scripts], capture_output=True, text=True, check=False)
-            self.check("no queue, changed places", ("all cars (at most),,,,-54.138\n" in ran.stdout, "lost: 24 at km 0 (before), 37 at km 0.75 (before); " in ran.stdout),
-                  (True, True))
-            ran = subprocess.run([RECIPE / "run", "--no-queue", "--days", "2", "--out", folder], capture_output=True, text=True, check=False)
-            bounds = {row[0]: row[-1] for row in csv.reader(ran.stdout.splitlines()) if len(row) == 10}
-            self.check("no queue, two days", (bounds["vehicle hours on the road"], bounds["cars that entered"]), ("at least", ""))
-            self.check("no queue, a sentence on two days", re.search(r"^Cars that cannot enter are lost: \d+ at km 0 \(after\), \d+ at km 0.75 \(after\); ", ran.stdout, re.M)
-                  is not None, True)
+            def run(zone: int, *words: str, turned: bool = False) -> str:
+                plan = Plan(length=400, zone=zone, inlets=[(0, 26_240), (100, 4_640)], zones=[(5, 6_554)] * (400 // zone), words=3)
+                paths = [Path(folder, name) for name in ("open", "shut")]
+                for path, works in zip(paths, ([], close_cell(300, 300, 900))):
+                    edits = [{"edit": {"at": "A", "object": [kind, index], "step": step, "value": value}} for kind, index, step, value in works]
+                    path.write_text("".join(json.dumps(line) + "\n" for line in [plan.to_line(), *edits, {"advance": {"at": "A", "to": 2_400}}]), encoding="utf-8")
+                return subprocess.run([RECIPE / "run", "--metres", "7.5", "--out", folder, *words, *paths[::-1 if turned else 1]], capture_output=True,
+                                      text=True, check=False).stdout
+            said = run(400)
+            lost = [int(row[2]) - int(row[3]) for row in csv.reader(said.splitlines()) if len(row) == 6 and row[1] in ("0", "0.75")]
+            self.check("cars are lost at both inlets", (len(lost), min(lost) > 2), (2, True))
+            parts, cause = f"{lost[0]} at km 0 (after), {lost[1]} at km 0.75 (after)", "because cars can wait only before a first zone of at most 1.5 km"
+            self.check("the sentence", f"\nCars that cannot enter are lost: {parts}; hours and delay leave them out, {cause}.\n" in said, True)
+            self.check("bounds", ("all cars (at least)" in said, "all cars (at most)" in run(400, turned=True)), (True, True))
+            over = run(400, "--days", "2")
+            bounds = {row[0]: row[-1] for row in csv.reader(over.splitlines()) if len(row) == 10}
+            self.check("over days", (bounds["vehicle hours on the road"], bounds["cars that entered"]), ("at least", ""))
+            self.check("a sentence over days", re.search(rf"^Cars that cannot enter are lost: \d+ at km 0 \(after\), \d+ at km 0.75 \(after\); .*, {cause}\.$", over,
+                                                        re.M) is not None, True)
+            self.check("narrow zones", ("are lost" in run(200), "(at least)" in run(200)), (False, False))
 
     def test_too_short(self) -> None:
         """End a run while cars wait: the table says that the delay is a bound, in which direction, and where cars wait."""

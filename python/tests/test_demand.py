@@ -13,7 +13,8 @@ from zegdrut import Plan, RoadLab
 from zegdrut.figures import Trips, Window, count_admitted_cars
 from zegdrut.figures.trips import count_detector
 from zegdrut.roads.demand import (
-    BeyondCapacity, Drivers, Inlet, QUICK, Supply, convert_demands, count_admitted, count_demand, measure_admission)
+    BeyondCapacity, Drivers, Inlet, QUICK, Supply, bring_closer, convert_demands, count_admitted, count_demand,
+    measure_admission)
 
 IS_ALL = "ALL_TESTS" in os.environ
 
@@ -120,6 +121,22 @@ class Demands(Checked):
                 lab.advance("A", 3_600)
                 entered += len({car.number for step in range(0, 3_601, 10) for car in lab.cars("A", step)})
         self.check_near("slowing of 3/4 at the inlet", Supply(1_200 * 4, entered).lost / 4, 1_200 - 592, 25)
+
+
+class Closer(unittest.TestCase):
+    def test_inlets_of_a_quick_measurement(self) -> None:
+        """Shorten each stretch between two inlets to the cells in which a car is slowed four times, at least 100: with limit 4 and a chance of 1/10 these
+        are 160. The first stretch begins behind the entry, and each later inlet moves by all that is left out before it."""
+        drivers, cells = Drivers(4, 6_554, 30_000, 40), [0, 700, 790, 1_500, 3_000, 3_160]
+        found, place, last = [], 0, 0
+        for cell in cells:
+            begin = max(last, 40)
+            place += min(cell - last, begin - last + 160) if cell > begin else cell - last
+            found.append(place)
+            last = cell
+        self.assertEqual([one.cell for one in bring_closer([Inlet(cell, 9) for cell in cells], drivers)], found)
+        self.assertEqual(found, [0, 200, 290, 450, 610, 770])
+        self.assertEqual([one.cell for one in bring_closer([Inlet(cell, 9) for cell in cells], drivers._replace(slowing=60_000))][:3], [0, 140, 230])
 
 
 if __name__ == "__main__":

@@ -103,8 +103,8 @@ class Metering(Checked):
             self.check("cars wait before km 0", max(waiting) > 0, True)
             self.check("together", round(found["vehicle hours together"], 9), round((sum(cells) + sum(queues) + sum(waiting)) / 3_600, 9))
             self.check("nothing is lost before km 0", found["lost main demand, cars"], 0)
-        lossy = dataclasses.replace(site, has_queue=False)
-        with open_day(lossy, 3) as lab:
+        lossy = site
+        with open_day(lossy, 3) as lab, unittest.mock.patch("zegdrut.commands.metering.can_wait", lambda script: False):
             run = run_metered(lossy, lab, 600)
             lost = len(arrived) - len({car.number for step in range(1, 1_801) for car in lab.cars("A", step) if car.number % 16 == 0})
         row, said = next(row for row in compare_runs(lossy, [[run, run]]) if row.figure.key == "together"), explain_queues(lossy, [[run, run]])

@@ -23,6 +23,8 @@ EARLIER = {**ROAD, "begin": "06:55", "minutes": 25, "main": [["06:55", 900], ["0
 """The same road, which begins five minutes earlier: twice the free travel time of 40 s, rounded up to five minutes."""
 FIRST, LAST = 300, 1_500
 """The steps of the window."""
+WIDE = {"length": 3, "zone": 2.25}
+"""A longer road with a first zone of 300 cells, before which no car can wait."""
 T_OF_TWO = 4.302653
 """Student's t for two degrees of freedom, from printed tables."""
 
@@ -122,23 +124,24 @@ class Figures(ReportChecks):
 
     def test_queue(self) -> None:
         """Let cars wait before a road without ramps whose lane is closed. Both roads then admit the same cars, so the delay is the time of all
-        cars, after minus before. A run that ends too early says so, and with `--no-queue` cars are lost."""
+        cars, after minus before. A run that ends too early says so. Before a first zone of 300 cells cars are lost."""
         hours = "vehicle hours on the road"
         with tempfile.TemporaryDirectory() as name:
             road, page = Path(name, "small.json"), Path(name, "report.html")
-            for words, end, bound, is_lost in (([], "07:08", "", False), ([], "07:19", "at least", True), (["--no-queue"], "07:08", "at least", True)):
-                road.write_text(json.dumps({**ROAD, "main": 800, "ramps": [], "sections": [], "stalled": [[0.9, "07:02", end]]}), encoding="utf-8")
-                ran = subprocess.run([RECIPE / "run", road, "--days", "2", "--out", page, *words], capture_output=True, text=True, check=False)
+            for zones, end, bound, is_lost in (({}, "07:08", "", False), ({}, "07:19", "at least", True), (WIDE, "07:08", "at least", True)):
+                road.write_text(json.dumps({**ROAD, **zones, "main": 800, "ramps": [], "sections": [], "stalled": [[0.9, "07:02", end]]}), encoding="utf-8")
+                ran = subprocess.run([RECIPE / "run", road, "--days", "2", "--out", page], capture_output=True, text=True, check=False)
                 self.check("a queue: status", ran.returncode, 0)
                 table = Path(name, "figures-small-0700-0720.csv").read_text(encoding="utf-8").splitlines()[1:]
                 rows = {row["figure"]: row for row in csv.DictReader(table)}
                 self.check(f"a queue until {end}: lost cars", rows["admitted cars"]["without works"] != rows["admitted cars"]["with works"], is_lost)
                 delay, html = rows["delay, vehicle hours"], page.read_text(encoding="utf-8")
                 self.check(f"a queue until {end}: a bound", (delay.get("bound", ""), "delay, vehicle hours (at least)" in html), (bound, bool(bound)))
-                if words:
+                if zones:
                     self.check("without a queue", [figure for figure in rows if "before" in figure], [])
                     lost = float(rows["lost demand, cars"]["with works"])
-                    self.check("cars are lost", (lost > 0, f"Cars that cannot enter are lost: {lost:.0f} at km 0 (with works); hours and delay leave them out." in html),
+                    self.check("cars are lost", (lost > 0, f"Cars that cannot enter are lost: {lost:.0f} at km 0 (with works); hours and delay leave them out, because cars can wait "
+                                                      "only before a first zone of at most 1.5 km." in html),
                           (True, True))
                 else:
                     self.check_number("the delay of all cars", delay["difference"], float(rows[f"{hours} and before it"]["difference"]))
@@ -169,18 +172,18 @@ class Figures(ReportChecks):
         self.check("other days", (hours[2][:6] != hours[0][:6], hours[2][6]), (True, True))
 
     def test_every_figure(self) -> None:
-        """Compute each figure of a report of three days, its intervals, and the charts."""
+        """Compute each figure of a report of three days, on which cars are lost, its intervals, and the charts."""
         with tempfile.TemporaryDirectory() as folder:
             path = Path(folder, "small.json")
-            path.write_text(json.dumps(ROAD), encoding="utf-8")
-            ran = subprocess.run([RECIPE / "run", path, "--days", "3", "--no-queue", "--out", Path(folder, "report.html")], stdout=subprocess.PIPE,
+            path.write_text(json.dumps({**ROAD, **WIDE}), encoding="utf-8")
+            ran = subprocess.run([RECIPE / "run", path, "--days", "3", "--out", Path(folder, "report.html")], stdout=subprocess.PIPE,
                                  stderr=subprocess.PIPE, text=True, check=False)
             if ran.returncode:
                 sys.exit(ran.stderr)
             html = Path(folder, "report.html").read_text(encoding="utf-8")
             head, *table = Path(folder, "figures-small-0700-0720.csv").read_text(encoding="utf-8").splitlines()
             series = list(csv.DictReader(Path(folder, "series-small-0700-0720.csv").read_text(encoding="utf-8").splitlines()[1:]))
-            path.write_text(json.dumps(EARLIER), encoding="utf-8")
+            path.write_text(json.dumps({**EARLIER, **WIDE}), encoding="utf-8")
             figures = FIGURES.override(path)
         if head != "# small, 07:00 to 07:20 on 2026-03-02, per lane, mean of 3 days":
             self.check_number(f"the head of the table, {head}", "0", 1)

@@ -3,7 +3,6 @@
 
     tests/reference_simulator/delays.py BEFORE AFTER > recipes/delay/expected
     tests/reference_simulator/delays.py BEFORE AFTER 5 > recipes/delay/days.expected
-    tests/reference_simulator/delays.py --no-queue BEFORE AFTER > recipes/delay/no_queue.expected
 
 With a number N, compute means and 95 % intervals over N days, with Python's `statistics` and published values of Student's t.
 
@@ -73,7 +72,7 @@ def find_arrivals(given, edits, to):
     return found
 
 
-def gates(path, days=0, counted=None, has_queue=True):
+def gates(path, days=0, counted=None):
     """Run a script. Return its plan, the step of entry and the step of leaving by car number, the last step, the number of cars on the road
     and before it, summed over all steps, for each inlet the cars that wait after each step, how many cars entered, and the number of cars on
     the road, summed over all steps. The seed is that of the plan plus `days`. Append the detectors' counts of each step to `counted`."""
@@ -88,7 +87,7 @@ def gates(path, days=0, counted=None, has_queue=True):
         else:
             to = command["advance"]["to"]
     come, gone, before, spent, queues = {}, {}, set(), 0, []
-    arrivals = find_arrivals(given, edits, to) if has_queue else {}
+    arrivals = find_arrivals(given, edits, to)
     for step, (now, counts, waiting) in enumerate(follow(plan, edits, to, arrivals)):
         if step < to:
             queues.append(waiting)
@@ -217,13 +216,12 @@ def run_ends_too_early(before, after, both):
 
 
 def main():
-    paths = [word for word in sys.argv[1:] if word != "--no-queue"]
+    paths = sys.argv[1:]
     if len(paths) > 2:
         over_days(paths[:2], int(paths[2]))
         return
-    has_queue = len(paths) == len(sys.argv) - 1
     (plan, come, gone, to, spent, *_, queues, _, _), (_, other, left, _, spent_after, *_, queues_after, _, _) = (
-        gates(path, has_queue=has_queue) for path in paths)
+        gates(path) for path in paths)
     all_cars = set(come) | set(other)
     took = {car: gone.get(car, to) - come[car] for car in come}
     takes = {car: left.get(car, to) - other[car] for car in other}

@@ -13,8 +13,9 @@ from zegdrut.base.child_processes import end_with_parent
 from zegdrut.base.intervals import warn_few_days
 from zegdrut.figures import Value, Window, compare_roads, measure_roads
 from zegdrut.figures.days import SEEDS
-from zegdrut.figures.queues import Ends
+from zegdrut.figures.queues import Ends, Waits, explain_cause, find_inlets, is_shown
 from zegdrut.figures.simulation import iterate_days
+from zegdrut.figures.table import list_known
 from zegdrut.reports.report_tables import run_side
 
 from ..base.refusals import Refused
@@ -83,10 +84,11 @@ class Comparisons:
 # In the child
 
 class Day(NamedTuple):
-    """The figures of a day, and the cars at its end, of the first road with each later one."""
+    """The figures of a day, and the cars at its end, of the first road with each later one; and the queues before each road."""
 
     figures: Sequence[Sequence[Value]]
     ends: Sequence[Ends]
+    waits: Sequence[Waits]
 
 
 def simulate_days(asked: DaysQuestion) -> Iterator[DaysAnswer]:
@@ -95,20 +97,24 @@ def simulate_days(asked: DaysQuestion) -> Iterator[DaysAnswer]:
     compared, days = asked["compared"], list[Day]()
     early: dict[int, Day] = {}  # days that ended before an earlier one, by their places
     window, sides = Window(compared["first"], compared["last"]), sides_of(compared)
-    figures, parent = list_figures(compared["plan"], units_of(compared)), os.getpid()
+    plan, units = compared["plan"], units_of(compared)
+    figures, parent = list_figures(plan, units, frozenset(range(len(plan["inlets"])))), os.getpid()
 
     def make_day(seed: int) -> Day:
         end_with_parent(parent)
         runs = [run_side(side, seed, window, with_rows=False) for side in sides]
-        return Day(measure_roads(figures, runs), compare_all_ends(runs))
+        return Day(measure_roads(figures, runs), compare_all_ends(runs), list(map(Waits.of, runs)))
     first = int(compared["plan"]["words"])
     with contextlib.closing(iterate_days(make_day, [(first + one) % SEEDS for one in range(asked["days"])])) as running:
         for place, day in running:
             early[place] = day
             while len(days) in early:
                 days.append(early.pop(len(days)))
-                tables = compare_roads(figures, [one.figures for one in days])
-                yield {"done": len(days), "figures": write_rows(tables, [one.ends for one in days], compared)}
+                inlets = find_inlets([one.waits for one in days])
+                tables = list_known([[row for row in rows if is_shown(row.figure, inlets, units)]
+                                     for rows in compare_roads(figures, [one.figures for one in days])])
+                yield {"done": len(days), "figures": write_rows(tables, [one.ends for one in days], [one.waits for one in days], compared,
+                                                                explain_cause([side.script for side in sides]))}
 
 
 if __name__ == "__main__":

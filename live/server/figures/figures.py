@@ -16,7 +16,7 @@ from zegdrut.base import METRES, Units
 from zegdrut.base.wire import CountReply, Fields, PlanLine, WrittenEdit
 from zegdrut.figures import Figure, FigureRow, Mean as FigureMean, RoadRun, Trips, Window, compare_roads, compute_demands, list_means, measure_roads, pair_roads, read_counts
 from zegdrut.figures.lost_demand import AskedRates
-from zegdrut.figures.queues import NOBODY_WAITS, Ends, average_ends, compare_ends, is_of_free_road, is_shown, with_bounds, with_lost
+from zegdrut.figures.queues import NOBODY_WAITS, Ends, Waits, average_ends, compare_ends, explain_cause, is_of_free_road, is_shown, with_bounds, with_lost
 from zegdrut.figures.table import list_shown
 from zegdrut.figures.trips import DetectorCount, compute_travel_times_by_entry, count_seconds_on
 from zegdrut.figures.waiting import find_arrivals
@@ -32,6 +32,7 @@ SECONDS = 60.0  # seconds for a question; the next one resumes where this one st
 STEPS_AT_ONCE = 1_920  # steps that are read at a time
 MOST_FIGURE_ROADS = 12  # roads that are kept
 NICE = 5  # below editing, above what takes longer
+OVER_DAYS = "; in the comparison over days they wait before the road"  # the end of a sentence on the lost cars of the shown day
 ENTRY = 60  # steps: travel times are grouped by the minute in which the cars entered
 
 ComparedRoad = TypedDict("ComparedRoad", {"name": str, "edits": Sequence[WrittenEdit], "demands": Sequence[AskedRates], "capacities": Sequence[int]})
@@ -63,9 +64,9 @@ def write_head(figure: Figure) -> Head:
     return {"key": figure.key, "of": list(figure.of), "label": figure.label, "unit": figure.unit, "title": figure.title, "digits": figure.digits}
 
 
-def list_figures(plan: PlanLine, units: Units) -> list[Figure]:
-    """Return the figures that live has of a road. Nobody waits before it."""
-    return [figure for figure in list_shown("live", plan, units) if is_shown(figure, frozenset(), units)]
+def list_figures(plan: PlanLine, units: Units, inlets: frozenset[int] = frozenset()) -> list[Figure]:
+    """Return the figures that live has of a road. Cars wait before these inlets, on the shown day before none."""
+    return [figure for figure in list_shown("live", plan, units) if is_shown(figure, inlets, units)]
 
 
 def list_heads(plan: PlanLine, units: Units) -> list[Head]:
@@ -83,16 +84,19 @@ def compare_all_ends(runs: Sequence[RoadRun]) -> list[Ends]:
     return [compare_ends(before, after) for before, after in pair_roads(runs)]
 
 
-def write_rows(tables: Sequence[Sequence[FigureRow]], days: Sequence[Sequence[Ends]], compared: ComparedRoads) -> list[Row]:
-    """Return figures in the form of a reply. They say which of them need a word: a detector was off for a while, a road loses cars, or cars are
-    late there at the end. `days` has for each day what `compare_all_ends` returns."""
+def write_rows(tables: Sequence[Sequence[FigureRow]], days: Sequence[Sequence[Ends]], waits: Sequence[Sequence[Waits]], compared: ComparedRoads,
+               cause: str) -> list[Row]:
+    """Return figures in the form of a reply. They say which of them need a word: a detector was off for a while, a road loses cars (`cause` says
+    why), or cars wait or are late there at the end. `days` has for each day what `compare_all_ends` returns, and `waits` the queues of the roads."""
     names = [road["name"] for road in compared["roads"]]
     values = {(row.figure.key, *row.of): list_means(tables, place, len(compared["roads"])) for place, row in enumerate(tables[0])}
     places = [(units_of(compared).place(cell), values.get(("lost at", inlet, None)) or values["lost", None, None])
               for inlet, (cell, _) in enumerate(compared["plan"]["inlets"])]
     lost = [{place: means[number].mean or 0.0 for place, means in places} for number in range(len(compared["roads"]))]
-    bounded = [with_bounds(rows, pair, [[NOBODY_WAITS] * 2], average_ends(ends)) for rows, pair, *ends in zip(tables, pair_roads(names), *days)]
-    tables = with_lost(bounded, names, lost)
+    pairs = [pair_roads(day) for day in waits]
+    bounded = [with_bounds(rows, pair, [each[place] for each in pairs], average_ends([ends[place] for ends in days]))
+               for place, (rows, pair) in enumerate(zip(tables, pair_roads(names)))]
+    tables = with_lost(bounded, names, lost, cause)
     found: list[Row] = []
     for rows in zip(*tables):
         row, (inlet, detector) = rows[0], rows[0].of
@@ -165,7 +169,7 @@ def edits_of(rows: Sequence[WrittenEdit]) -> Edits:
 
 
 def sides_of(compared: ComparedRoads) -> list[Side]:
-    """Return roads as scripts, with their demands. Cars that cannot enter are lost."""
+    """Return roads as scripts, with their demands."""
     found, last, plan = [], compared["last"], compared["plan"].copy()
     plan["replicas"] = ["A"]
     advance: Fields = {"advance": {"at": "A", "to": last}}
@@ -175,7 +179,7 @@ def sides_of(compared: ComparedRoads) -> list[Side]:
         of_free = [edit for edit in edits if is_of_free_road(edit)]
         free = Script(plan, [*({"edit": {"at": "A", "object": list(edit.object), "step": edit.step, "value": edit.value}} for edit in of_free), advance])
         script = free if len(of_free) == len(edits) else Script(plan, [*import_lines("A", rows_of(edits_of(rows))), advance])
-        found.append(Side(road["name"], script, compute_demands(plan, edits, last, asked=road["demands"]), free, waits=False, units=units_of(compared)))
+        found.append(Side(road["name"], script, compute_demands(plan, edits, last, asked=road["demands"]), free, units_of(compared)))
     return found
 
 
@@ -214,9 +218,12 @@ class Roads:
         if done < window.last:
             yield {"done": done}
             return
-        runs = [road.run_of(side, window) for road, side in zip(roads, sides_of(compared))]
+        sides = sides_of(compared)
+        runs = [road.run_of(side, window) for road, side in zip(roads, sides)]
         figures = list_figures(compared["plan"], units_of(compared))
-        yield {"figures": write_rows(compare_roads(figures, [measure_roads(figures, runs)]), [compare_all_ends(runs)], compared),
+        tables = compare_roads(figures, [measure_roads(figures, runs)])
+        cause = explain_cause([side.script for side in sides]) or OVER_DAYS
+        yield {"figures": write_rows(tables, [compare_all_ends(runs)], [[NOBODY_WAITS] * len(runs)], compared, cause),
                "entries": [*map(times_by_entry, runs)]}
 
 

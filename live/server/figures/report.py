@@ -8,11 +8,15 @@ import math
 import time
 from typing import Iterator, Sequence, TypedDict
 
+from zegdrut import Edit
 from zegdrut.base import KMH, Units
 from zegdrut.base.units import ALWAYS, count_things
 from zegdrut.base.wire import PlanLine
-from zegdrut.figures import Window
+from zegdrut.figures import RoadRun, Window
 from zegdrut.figures.days import SEEDS
+from zegdrut.figures.lost_demand import find_drivers
+from zegdrut.figures.queues import Waits, explain_outflow
+from zegdrut.figures.waiting import find_main
 from zegdrut.reports import Side, make_tables, run_sides
 from zegdrut.reports.report_page import Contents, describe_approach, describe_capacities, draw_demands, format_page
 from zegdrut.roads import Clock
@@ -22,6 +26,7 @@ from zegdrut.sweeps.pool import count_processors
 
 from ..base.json_values import Json
 from ..model.projection import Edits
+from ..program.simulated_roads import rows_of
 from . import child
 from .figures import ComparedRoads, edits_of, sides_of, units_of
 
@@ -32,6 +37,7 @@ MOST_SECONDS = child.PATIENCE
 NICE = 8
 NO_RANGES = ("this report has no table of how far the figures move with drivers that fit as well: the report that `python3 -m zegdrut report` writes of the "
              "freeway file has one, for the works of that file")
+DAYS_OF_SEEDS = "days of other seeds than the one that live shows: cars that cannot enter wait before the road on them, and are lost on that one"
 MOST_DATES = 12  # changes of a demand that a sentence lists; if there are more, the chart shows them
 ReportQuestion = TypedDict("ReportQuestion", {
     "compared": ComparedRoads, "title": str, "works": Sequence[str], "clock": Sequence["str | None"], "days": int, "approach": bool, "calibration": Json})
@@ -73,7 +79,7 @@ def facts_of(compared: ComparedRoads, sides: Sequence[Side], clock: Clock) -> li
     drivers += "".join(f", slow-to-start {chance / ALWAYS:.0%}" for chance in (starts if len(starts) == 1 else ()))
     units = units_of(compared)
     found = [f"{units.to_km(plan['length']):g} km, one lane, {drivers}", *describe_approach(units)]
-    return [*found, *(f"{f'{side.name}: ' if differ else ''}{name}: {demand_text(rates, clock, compared['last'])}"
+    return [*found, DAYS_OF_SEEDS, *(f"{f'{side.name}: ' if differ else ''}{name}: {demand_text(rates, clock, compared['last'])}"
                       for side in (sides if differ else sides[-1:]) for name, rates in named_demands(plan, side))]
 
 
@@ -99,6 +105,14 @@ def demand_text(rates: Rates, clock: Clock, last: int) -> str:
         peak, most = max(dates, key=lambda one: one[1])
         return f"{min(rate for _, rate in dates):,} to {most:,} cars/h, with the peak from {clock.to_text(peak)} on"
     return ", ".join(f"{rate:,} from {clock.to_text(step)}" for step, rate in dates) + " cars/h"
+
+
+def explain_waiting(compared: ComparedRoads, days: Sequence[Sequence[RoadRun]]) -> list[str]:
+    """Return a sentence if cars wait before the first road with a demand close to what a queue lets out, which makes the waiting inexact."""
+    plan = compared["plan"]
+    edits = [Edit.read(row) for row in rows_of(edits_of(compared["roads"][0]["edits"]))]
+    drivers = find_drivers(plan, edits, int(plan["inlets"][find_main(plan)][0]))
+    return explain_outflow(drivers, [list(map(Waits.of, runs)) for runs in days])
 
 
 class TakesTooLong(Exception):
@@ -140,7 +154,7 @@ def make_page(asked: ReportQuestion) -> Iterator[ReportAnswer]:
         title=asked["title"], facts=facts_of(compared, sides, clock), works=asked["works"], notes=[], clock=clock, window=window,
         length=plan["length"], detectors=plan["detectors"], sides=sides, days=days, rows=tables[0], others=tables[1:], seed=seed,
         closed=closed, demand=demand_chart(plan, sides, clock, window), has_approach=asked["approach"],
-        remarks=describe_capacities([one for road in compared["roads"] for one in road["capacities"]]),
+        remarks=[*describe_capacities([one for road in compared["roads"] for one in road["capacities"]]), *explain_waiting(compared, days)],
         sure=describe_sureness(asked["calibration"], len(days))))}
 
 

@@ -6,7 +6,6 @@
     --at NAME      the replica; by default the first one of each plan
     --metres M     the length of a cell: places are then shown in km, not as cells
     --seconds S    the length of a step (default: 1)
-    --no-queue     cars that cannot enter are lost, and do not wait before the road
     --demand       also show demand, admitted cars and lost demand of each inlet (demand.csv); this takes some seconds
     --minutes N    the period of entry in minutes (default: 1)
     --out FOLDER   the folder of the tables (default: out/)
@@ -41,7 +40,7 @@ from ..figures.days import ROADS, Days, run_over_days
 from ..figures.delay_by_car import Delay, Entered, Group, compare_delays, to_vehicle_hours
 from ..figures.lost_demand import compute_demands, compute_supplies
 from ..figures.queues import (EditedRoad, Waits, average_lost, compare_ends, explain_end, explain_lost, explain_outflow, find_bound,
-                              find_growing, find_inlets, read_roads, run_day)
+                              explain_cause, find_growing, find_inlets, read_roads, run_day)
 from ..figures.simulation import RoadRun
 from ..figures.table import PER_LANE, Figure, FigureRow, choose, list_figures, sort_inlets
 from ..figures.trips import Window, count_admitted_cars
@@ -194,7 +193,7 @@ def compare_over_days(given: argparse.Namespace) -> None:
     """Compare both scripts over many days."""
     before, after = map(read_script, given.scripts)
     prepare_folder(given.out)
-    days = run_over_days(before, after, given.days, given.at, read_units(given), given.scripts, has_queue=not given.no_queue)
+    days = run_over_days(before, after, given.days, given.at, read_units(given), given.scripts)
     rows = days.rows()
     print("".join(f"{one}\n" for one in warn_few_days(given.days)), end="", file=sys.stderr, flush=True)
     write_and_print(given.out, "days.csv", format_rows(rows))
@@ -239,7 +238,6 @@ def read_arguments(words: Sequence[str] | None, example: Sequence[str], out: Pat
     parser = argparse.ArgumentParser("zegdrut delay", description=__doc__, formatter_class=argparse.RawDescriptionHelpFormatter)
     parser.add_argument("--days", type=int, metavar="N")
     parser.add_argument("--demand", action="store_true", help="show the demand of each inlet, and how much of it was lost (takes some seconds)")
-    parser.add_argument("--no-queue", action="store_true", help="cars that cannot enter are lost, and do not wait before the road")
     parser.add_argument("--at", metavar="NAME")
     parser.add_argument("--metres", type=float, metavar="M")
     parser.add_argument("--seconds", type=float, metavar="S")
@@ -264,8 +262,7 @@ def compare(given: argparse.Namespace) -> None:
     roads = read_roads(given.scripts, scripts, given.at)
     plan = scripts[0].plan
     check_same_road(plan, scripts[1].plan)
-    runs = [run_day(road.script, road.free, Window(units.begin, road.last), detectors=[], seconds=seconds, waits=not given.no_queue,
-                    origin=units.origin) for road in roads]
+    runs = [run_day(road.script, road.free, Window(units.begin, road.last), detectors=[], seconds=seconds, origin=units.origin) for road in roads]
     cost = compare_delays(runs[0].by_arrival, runs[1].by_arrival, max(round(given.minutes * 60 / seconds), 1), units.begin)
     waits = [list(map(Waits.of, runs))]
     grow, inlets, figures, lost = find_growing(waits), find_inlets(waits), list_figures(plan, units), [average_lost([run], units) for run in runs]
@@ -280,7 +277,7 @@ def compare(given: argparse.Namespace) -> None:
     if given.demand:
         write_and_print(given.out, "demand.csv", format_demands(plan["inlets"], supplies[0], supplies[1], units))
     print_notes(cost, [note for note in (
-        explain_end(ROADS, waits, ends), *explain_outflow(roads[0].drivers, waits), explain_lost(ROADS, lost)) if note])
+        explain_end(ROADS, waits, ends), *explain_outflow(roads[0].drivers, waits), explain_lost(ROADS, lost, explain_cause([road.script for road in roads]))) if note])
 
 
 def main(words: Sequence[str] | None = None, example: Sequence[str] = (), out: Path = Path("out")) -> int:

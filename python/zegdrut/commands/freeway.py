@@ -47,8 +47,8 @@ from ..roads.demand import Inlet, Supply, count_admitted, count_demand, find_rat
 from ..roads.freeway_files import FIGURES
 from ..roads.inflow_chances import run_script
 from ..roads.road_in_cells import (
-    Figures, Road, find_changes, describe_changes, list_free_cells, make_road, make_shapes, measure_chances, postpone,
-    widen_inlet, widen_inlets, with_lead)
+    Figures, Road, find_changes, describe_changes, list_free_cells, make_shapes, measure_chances, postpone, widen_inlet,
+    widen_inlets, with_lead)
 from ..roads.road_scripts import Chances, make_commands, make_plan, make_script
 
 MOST_ROWS = 1_000
@@ -272,7 +272,7 @@ def run_freeway(figures: Figures, folder: Path, then: Figures | None = None) -> 
 
 def print_plan(figures: Figures) -> None:
     """Print the plan and the shapes for live/serve as a line of JSON, and on standard error what was rounded."""
-    road = make_road(figures)
+    (road,) = make_waiting_roads([figures])
     print("".join(f"{one}\n" for one in road.notes), end="", file=sys.stderr, flush=True)
     found = measure_chances_aloud(road)
     approach = {"origin": road.approach, "lead": road.lead} if road.approach else {}

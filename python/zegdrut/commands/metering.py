@@ -1,6 +1,6 @@
 """Meter an on-ramp by ALINEA in a closed loop, and compare it with no control over some days.
 
-    python3 -m zegdrut metering ROAD.json CONTROL.json [--days N] [--no-queue] [--as-if-from TIME] [--out FOLDER]
+    python3 -m zegdrut metering ROAD.json CONTROL.json [--days N] [--as-if-from TIME] [--out FOLDER]
 
 ROAD.json is a freeway with a ramp, as `zegdrut freeway` reads it. CONTROL.json has
 
@@ -12,7 +12,8 @@ hour. begin is the time when metering starts. Only ramp, detector and setpoint a
 
 Cars wait before the ramp in a vertical queue (arrivals minus admitted cars), whether the ramp is metered or not. The waiting time is
 the sum of the queue over all seconds, in vehicle hours, listed next to the hours on the road. Cars that cannot enter at km 0 or at another
-ramp wait, too, unless --no-queue says that they are lost. With --as-if-from TIME the first day is simulated without control, and then again as if metering had started at TIME, by edits in the past. Both runs are compared.
+ramp wait, too. With --as-if-from TIME the first day is simulated without control, and then again as if metering had started at TIME, by
+edits in the past. Both runs are compared.
 The command prints a table of means and 95 % intervals (Student's t, paired by day), and writes it to metering-NAME-0630-0930.csv, with
 the window in the name. It writes the first day to minutes-NAME-0630-0930.csv. With --as-if-from it writes as-if-NAME-0630-0930.csv and
 as-if-minutes-NAME-0630-0930.csv.
@@ -40,15 +41,14 @@ from ..figures.queues import (WAITING_KEYS, Ends, Waits, average_lost, explain_e
 from ..figures.simulation import RoadRun, read_run, simulate_days
 from ..figures.table import PER_LANE, Figure, FigureRow, choose, compare as compare_figures, list_figures, measure_day
 from ..figures.trips import Window, entry_inlet, entry_step
-from ..figures.waiting import Queues, ask_edits, find_arrivals, make_waiting_roads
+from ..figures.waiting import Queues, ask_edits, can_wait, explain_wide_zone, find_arrivals, make_waiting_roads
 from ..program.lab import RoadLab
 from ..reports.outputs import format_window, make_title, prepare_folder, write_csv
 from ..roads.clock import InvalidTime
 from ..roads.control import PERIOD, RampMeter, run_control
 from ..roads.demand import Admission, AdmissionByFlow, BeyondCapacity, count_demand, measure_by_flow, find_rate
 from ..roads.freeway_files import FIGURES, check_names
-from ..roads.road_in_cells import (
-    Figures, Road, list_free_cells, make_all_roads, measure_chances, widen_inlet, with_lead)
+from ..roads.road_in_cells import Figures, Road, list_free_cells, measure_chances, widen_inlet, with_lead
 from ..roads.road_scripts import Chances, make_plan, make_script
 from .freeway import report_progress
 from .measured import check_days
@@ -89,8 +89,6 @@ class Site:
     cell: int
     control: Control
     admissions: AdmissionByFlow
-    has_queue: bool = True
-    """Whether cars that cannot enter at the other inlets wait before them."""
 
     def admission(self, step: int) -> Admission:
         """Return the admission of the ramp at the main demand of a step."""
@@ -149,10 +147,10 @@ def read_control(path: Path, figures: Figures) -> Control:
     return control
 
 
-def make_site(name: str, figures: Figures, control: Control, has_queue: bool = True) -> Site:
+def make_site(name: str, figures: Figures, control: Control) -> Site:
     """Make the road with detectors at and after the ramp, and measure the admission of the ramp at several main demands."""
     wide = with_lead(widen_inlet(figures))
-    (road,) = (make_waiting_roads if has_queue else make_all_roads)([wide])
+    (road,) = make_waiting_roads([wide])
     wanted, cell = road.to_cell(control.ramp), road.to_cell(control.detector)
     inlet = next((index for index, (place, _) in enumerate(road.inlets) if index and place == wanted), None)
     if inlet is None:
@@ -168,7 +166,7 @@ def make_site(name: str, figures: Figures, control: Control, has_queue: bool = T
     states = [tuple(find_rate(demand, step) for demand in demands) for step in sorted({step for demand in demands for step, _ in demand})]
     # All chances are measured, so that a day without control does not depend on the control.
     admissions = measure_by_flow(before, place, states, road.drivers)
-    return Site(name, figures, road, chances, inlet, cell, control, admissions, has_queue)
+    return Site(name, figures, road, chances, inlet, cell, control, admissions)
 
 
 # Days
@@ -189,11 +187,12 @@ def run_with_queues(site: Site, lab: RoadLab, start: float) -> tuple[Metered, Qu
     """Run a day with metering from step `start` on. Return it with the queues before the inlets that are not metered."""
     meter, steps = site.meter(start), site.road.steps
     arrivals = find_other_arrivals(site, lab.plan["words"])
-    queues = Queues(lab, "A", arrivals if site.has_queue else {})
+    waits = can_wait(make_script(site.road, site.chances, site.figures.seed))
+    queues = Queues(lab, "A", arrivals if waits else {})
     run_control(lab, "A", [meter], 0, steps, advance=queues.advance)
     run = read_run(lab, "A", Window(site.road.lead, steps), [demand for _, demand in site.road.inlets], detectors=[], origin=site.road.approach)
     waiting = {inlet: queue.waiting for inlet, queue in queues.of_inlet.items()}
-    return Metered(dataclasses.replace(run, waiting=waiting, arrivals={} if site.has_queue else arrivals), meter.rates), queues
+    return Metered(dataclasses.replace(run, waiting=waiting, arrivals={} if waits else arrivals), meter.rates), queues
 
 
 def find_other_arrivals(site: Site, seed: int | str) -> dict[int, list[int]]:
@@ -244,7 +243,7 @@ def compare_runs(site: Site, days: Sequence[Sequence[Metered]]) -> list[FigureRo
     waits = list_waits(days)
     figures = [figure for figure in site.list_figures() if is_shown(figure, find_inlets(waits))]
     rows = compare_figures(figures, [measure_day(figures, *(one.run for one in day)) for day in days])
-    return with_lost([with_bounds(rows, SIDES, waits, compare_ends(site, days))], SIDES, list_lost(site, days))[0]
+    return with_lost([with_bounds(rows, SIDES, waits, compare_ends(site, days))], SIDES, list_lost(site, days), find_cause(site))[0]
 
 
 def list_waits(days: Sequence[Sequence[Metered]]) -> list[list[Waits]]:
@@ -268,6 +267,11 @@ def count_last_cars(site: Site, run: RoadRun) -> float:
             + sum(sum(run.list_waiting(inlet)[-1:]) for inlet in run.waiting))
 
 
+def find_cause(site: Site) -> str:
+    """Return why cars of the road are lost; an empty string if they can wait."""
+    return explain_wide_zone(make_script(site.road, site.chances, site.figures.seed))
+
+
 def list_lost(site: Site, days: Sequence[Sequence[Metered]]) -> list[dict[str, float]]:
     """Return the mean number of cars that each inlet loses on a day, by its place, without control and with it."""
     return [average_lost([one.run for one in side], site.road.units) for side in zip(*days)]
@@ -277,7 +281,7 @@ def explain_queues(site: Site, days: Sequence[Sequence[Metered]]) -> list[str]:
     """Return the sentences that the figures of queues need."""
     waits = list_waits(days)
     return [one for one in (explain_end(SIDES, waits, compare_ends(site, days)), *explain_outflow(site.road.drivers, waits),
-                            explain_lost(SIDES, list_lost(site, days))) if one]
+                            explain_lost(SIDES, list_lost(site, days), find_cause(site))) if one]
 
 
 def make_table(rows: Sequence[FigureRow]) -> Table:
@@ -313,7 +317,7 @@ def compare(given: argparse.Namespace, out: Path) -> None:
                     f"{figures.clock.to_text(round(figures.minutes * 60))}")
     folder = given.out or out / given.road.stem
     prepare_folder(folder)
-    site = make_site(given.road.stem, figures, control, not given.no_queue)
+    site = make_site(given.road.stem, figures, control)
     print("".join(f"{note}\n" for note in site.road.notes), end="", file=sys.stderr, flush=True)
     if start is not None:
         report_progress("simulating a day, and the same day again")
@@ -350,7 +354,6 @@ def read_arguments(words: Sequence[str] | None) -> argparse.Namespace:
     parser.add_argument("road", type=Path, metavar="ROAD.json")
     parser.add_argument("control", type=Path, metavar="CONTROL.json")
     parser.add_argument("--days", type=int, default=DAYS, metavar="N", help="number of days to compare (default: %(default)s)")
-    parser.add_argument("--no-queue", action="store_true", help="cars that cannot enter at km 0 or at other ramps are lost")
     parser.add_argument("--as-if-from", metavar="TIME", help='rerun one day as if metering had started at TIME, such as "07:10"')
     parser.add_argument("--out", type=Path, metavar="FOLDER", help="folder of the tables")
     add_dask_options(parser)

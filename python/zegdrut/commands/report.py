@@ -74,7 +74,6 @@ def read_arguments(words: Sequence[str] | None) -> argparse.Namespace:
     add_congestion_argument(parser)
     parser.add_argument("--warm-up", type=float, metavar="MINUTES", help="minutes of the run before the window (default: twice the free "
                         "travel time, rounded up to five minutes; 0: the road is empty when the window begins)")
-    parser.add_argument("--no-queue", action="store_true", help="cars that cannot enter are lost, and do not wait before the road")
     parser.add_argument("--show-approach", action="store_true", help="draw the approach in the space-time diagrams, too")
     parser.add_argument("--title", help="title of the report (default: the names of the files)")
     parser.add_argument("--out", type=Path, metavar="FILE.html", help="file of the report")
@@ -95,8 +94,6 @@ class Request:
     warm: float
     measured: Measured | None
     title: str = ""
-    has_queue: bool = True
-    """Whether cars that cannot enter wait before the road."""
 
     @property
     def first(self) -> Figures:
@@ -138,8 +135,7 @@ def read_request(given: argparse.Namespace) -> Request:
         others = [dataclasses.replace(other, date=dated.date) for other in others]
     return Request(figures, others, names, warm_up_minutes(figures) if given.warm_up is None else given.warm_up, measured,
                    given.road.stem if given.against is None else
-                   f"{join_names([one.stem for one in (*given.against[1:], given.road)])} compared with {given.against[0].stem}",
-                   not given.no_queue)
+                   f"{join_names([one.stem for one in (*given.against[1:], given.road)])} compared with {given.against[0].stem}")
 
 
 def read_others(given: argparse.Namespace, figures: Figures) -> tuple[list[Figures], list[str]]:
@@ -186,13 +182,13 @@ def join_names(names: Sequence[str]) -> str:
 def make_sides(request: Request) -> tuple[list[Road], list[Side]]:
     """Return the roads and the sides of the report. They begin before the window."""
     wide = [with_warm_up(one, request.warm) for one in widen_inlets([*request.others, request.figures])]
-    roads = (make_waiting_roads if request.has_queue else make_all_roads)(wide)
+    roads = make_waiting_roads(wide)
     found = []
     for name, road in zip(request.names, roads):
         report_progress(f"measuring the inflow chances for the demand of the road {name}")
         chances = measure_chances(road)
         found.append(Side(name, make_script(road, chances, wide[-1].seed), [demand for _, demand in road.inlets],
-                          make_script(road, chances, wide[-1].seed, with_works=False), request.has_queue, road.units))
+                          make_script(road, chances, wide[-1].seed, with_works=False), road.units))
     return roads, found
 
 

@@ -23,7 +23,7 @@ from .lost_demand import find_drivers
 from .simulation import RoadRun, read_run
 from .table import FREEWAY, Bound, Figure, FigureRow, count_lost, pair_roads
 from .trips import Window, entry_inlet, entry_step
-from .waiting import ask_edits, find_arrivals, find_main, let_wait, name_by_arrival
+from .waiting import ask_edits, can_wait, explain_wide_zone, find_arrivals, find_main, let_wait, name_by_arrival
 
 WAITING_KEYS = ("wait", "wait queue", "wait end")
 """The figures of cars that wait before the road, which are shown if cars wait."""
@@ -77,13 +77,13 @@ def is_of_free_road(edit: Edit) -> bool:
 
 
 def run_day(script: Script, free: Script | None, window: Window, demands: Sequence[Rates] = (), detectors: Sequence[int] | None = None,
-            period: int | None = None, with_passings: bool = True, with_rows: bool = False, seconds: float = 1.0, waits: bool = True,
+            period: int | None = None, with_passings: bool = True, with_rows: bool = False, seconds: float = 1.0,
             origin: int = 0) -> RoadRun:
-    """Run a script up to the end of a window. Cars wait before its inlets if `free`, its script without works, is given; otherwise, and
-    unless `waits`, cars that cannot enter are lost. `read_run` describes the other arguments."""
+    """Run a script up to the end of a window. Cars wait before its inlets if `free`, its script without works, is given and they can wait;
+    otherwise cars that cannot enter are lost. `read_run` describes the other arguments."""
     with RoadLab(script.plan) as lab:
         ask_edits(lab, script.commands)
-        arrivals = {} if free is None else find_arrivals(script, free, window.last)
+        arrivals, waits = ({}, False) if free is None else (find_arrivals(script, free, window.last), can_wait(script))
         queues = let_wait(lab, "A", arrivals if waits else {}, window.last)
         run = read_run(lab, "A", window, demands, detectors, period, with_passings, with_rows, seconds, origin)
     return dataclasses.replace(run, arrived=name_by_arrival(run.trips, arrivals, queues), arrivals={} if waits else arrivals,
@@ -208,14 +208,15 @@ SUPPLY_KEYS = ("demand", "demand at", "admitted", "admitted at")
 """The figures from which the lost cars follow."""
 
 
-def with_lost(tables: Sequence[Sequence[FigureRow]], names: Sequence[str], lost: Sequence[Mapping[str, float]]) -> list[list[FigureRow]]:
+def with_lost(tables: Sequence[Sequence[FigureRow]], names: Sequence[str], lost: Sequence[Mapping[str, float]],
+              cause: str = "") -> list[list[FigureRow]]:
     """Return the tables of `compare_roads` with rows that say which figures are bounds, because roads lose cars that cannot enter. `lost` has
-    the lost cars of each road, by the place of the inlet; `names` are those of the roads.
+    the lost cars of each road, by the place of the inlet; `names` are those of the roads, and `cause` ends the sentence on these cars.
 
     Two roads lose equally many cars if they have the same demand and admit as many cars on each day, whatever `lost` says by chance. If one
     of them loses none, the other loses none either. If both lose cars, a difference of 0 on each day is exact: the same cars met the same
     road."""
-    words = explain_lost(names, lost)
+    words = explain_lost(names, lost, cause)
     if not words:
         return [list(rows) for rows in tables]
     pairs = pair_roads([any(of_road.values()) for of_road in lost])
@@ -239,10 +240,15 @@ def find_lost_bound(row: FigureRow, lose: Sequence[bool], equally: bool) -> Boun
     return "" if equally and (not all(lose) or row.is_same) else find_bound(lose)
 
 
-def explain_lost(names: Sequence[str], lost: Sequence[Mapping[str, float]]) -> str:
-    """Return a sentence that says how many cars each road loses at which inlet; an empty string if none."""
+def explain_lost(names: Sequence[str], lost: Sequence[Mapping[str, float]], cause: str = "") -> str:
+    """Return a sentence that says how many cars each road loses at which inlet, and ends with a cause; an empty string if none."""
     parts = [f"{cars:,.0f} at {place} ({name})" for name, of_road in zip(names, lost) for place, cars in of_road.items() if cars]
-    return f"Cars that cannot enter are lost: {', '.join(parts)}; hours and delay leave them out." if parts else ""
+    return f"Cars that cannot enter are lost: {', '.join(parts)}; hours and delay leave them out{cause}." if parts else ""
+
+
+def explain_cause(scripts: Sequence[Script]) -> str:
+    """Return why cars are lost on one of some roads that cannot let them wait; an empty string if all can."""
+    return next(filter(None, map(explain_wide_zone, scripts)), "")
 
 
 def average_lost(runs: Sequence[RoadRun], units: Units = FREEWAY) -> dict[str, float]:

@@ -82,7 +82,7 @@ SHOWN = {
     "delay": ("hours", "approach hours", "wait", "wait queue", "wait end", "all hours", "through", "entered", "cars"),
     "report": ("delay", "delay at", "hours", "approach hours", "wait", "wait queue", "wait end", "all hours", "demand", "admitted", "lost", "travel",
                "flow", "speed"),
-    "live": ("delay", "delay at", "hours", "approach hours", "all hours", "demand", "demand at", "admitted", "admitted at", "lost", "lost at",
+    "live": ("delay", "delay at", "hours", "approach hours", "wait", "wait queue", "wait end", "all hours", "demand", "demand at", "admitted", "admitted at", "lost", "lost at",
              "travel", "cars", "flow", "speed", "on")}
 """The keys of the figures that a page can show."""
 

@@ -101,6 +101,20 @@ def make_timelines(lab: RoadLab, at: str, inlet: int) -> list[tuple[Timeline, in
     return found
 
 
+def can_wait(script: Script) -> bool:
+    """Return whether cars can wait before the main inlet of a road: its zone is narrow enough to be held free, or nobody is ever slowed there."""
+    plan, main = script.plan, find_main(script.plan)
+    zone = int(plan["inlets"][main][0]) // plan["zone"]
+    edited = [edit["value"] for line in script.commands if isinstance(edit := line.get("edit"), dict)
+              and tuple(edit["object"]) in (("slow", zone), ("start", zone))]
+    return plan["zone"] <= LONGEST_ZONE or not any([plan["zones"][zone][1], *edited])
+
+
+def explain_wide_zone(script: Script) -> str:
+    """Return why the cars of a road that cannot enter are lost; an empty string if they can wait."""
+    return "" if can_wait(script) else f", because cars can wait only before a first zone of at most {to_km(LONGEST_ZONE):g} km"
+
+
 def find_narrow_zone(width: int, roads: Sequence[Figures]) -> int:
     """Return the width of the widest zones of at most LONGEST_ZONE cells that fit some roads as well as zones of `width` cells do.
 

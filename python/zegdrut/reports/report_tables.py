@@ -14,7 +14,9 @@ from typing import Callable, NamedTuple, Sequence
 from ..base.intervals import average_known
 from ..base.units import Units
 from ..base.wire import Record
-from ..figures.queues import Ends, Waits, average_ends, average_lost, compare_ends, find_inlets, is_shown, run_day, with_bounds, with_lost
+from ..figures.queues import (
+    Ends, Waits, average_ends, average_lost, compare_ends, explain_cause, find_inlets, is_shown, run_day, with_bounds,
+    with_lost)
 from ..figures.simulation import RoadRun, simulate_days, split_window
 from ..figures.table import (FREEWAY, Bound, Figure, FigureRow, average_days, compare_roads, list_known, list_means, list_shown, measure_roads,
                              pair_roads)
@@ -37,8 +39,6 @@ class Side:
     demands: list[Rates]
     free: Script | None = None
     """The script without works, if cars that cannot enter wait before the road; otherwise they are lost."""
-    waits: bool = True
-    """Unless it is set, cars are lost even if `free` is given, and the figures of lost demand count them."""
     units: Units = FREEWAY
     """The units of places and times, with the cell at km 0."""
 
@@ -46,7 +46,7 @@ class Side:
 def run_side(side: Side, seed: int | str, window: Window, with_rows: bool) -> RoadRun:
     """Run a day of a road, and count in a window."""
     return run_day(side.script.with_seed(seed), None if side.free is None else side.free.with_seed(seed), window, side.demands, period=PERIOD,
-                   with_rows=with_rows, waits=side.waits, origin=side.units.origin)
+                   with_rows=with_rows, origin=side.units.origin)
 
 
 def run_side_of(window: Window, job: tuple[Side, int | str, bool]) -> RoadRun:
@@ -124,7 +124,7 @@ def make_whole_tables(sides: Sequence[Side], days: Sequence[Sequence[RoadRun]], 
     ends = [average_ends([compare_ends(*pair) for pair in pairs]) if len(sides) > 1 else Ends() for pairs in zip(*(pair_roads(runs) for runs in days))]
     tables = [with_bounds(rows, pair, growing, end) for rows, pair, end, *growing in zip(
         compare_roads(figures, [measure_roads(figures, runs) for runs in days]), pair_roads(names), ends, *(pair_roads(day) for day in waits))]
-    return with_lost(tables, names, [average_lost(runs, units) for runs in zip(*days)])
+    return with_lost(tables, names, [average_lost(runs, units) for runs in zip(*days)], explain_cause([side.script for side in sides]))
 
 
 def make_records(sides: Sequence[Side], tables: Sequence[Sequence[FigureRow]]) -> list[Record]:

@@ -311,12 +311,14 @@ def choose_zone_width(notes: list[str], figures: Figures, length: int) -> int:
             raise Fault(f"zones of {figures.zone:g} km are more than {MOST_ZONES}: use at least {to_km(least):g} km")
         widths = [width]
     most = max(find_longest_approach(width, length) for width in widths)
-    if figures.approach and max(asked, 1) > most:
+    fitting = [width for width in widths if has_room(figures, width, length)]
+    # With zones of a given width the approach is rounded to whole zones.
+    if not fitting or figures.zone is None and asked > most:
         zones, room = "" if figures.zone is None else f" with zones of {figures.zone:g} km", format_distance(to_km(most))
         raise Fault(f"approach {figures.approach:g} km is too long: a road of {figures.length:g} km{zones} leaves {room} km, because approach and road "
                     f"together have at most {MOST_ZONES} zones and {CELLS[-1]:,} cells: " + (f"use at most {room} km" if most else "leave it out")
                     + (", or use wider zones" if zones else ""))
-    return choose_width([width for width in widths if has_room(figures, width, length)], [figures], length)
+    return choose_width(fitting, [figures], length)
 
 
 def find_longest_approach(width: int, length: int) -> int:
