@@ -203,7 +203,7 @@ class Measurements(unittest.TestCase):
             self.assertGreater(min(one.cars for one in counts[place]), 20)
         self.assertGreater(entered[0], 100)
         self.assertEqual([(one.first, one.last) for one in list_segments(model)], [(200, 260), (260, 340), (340, 360)])
-        self.assertNotIn('text-anchor="end">-', draw_space_time(model))
+        self.assertNotIn('text-anchor="end">-', draw_space_time(model, simulate_day(model, model.seed, with_rows=True).rows))
 
     def test_a_run_that_is_read_again(self) -> None:
         """The cars on the approach are counted again after an edit of the past."""

@@ -29,7 +29,7 @@ from zegdrut.measurements.calibration import Calibration, Point, Trial
 from zegdrut.measurements.counts_on_road import Series
 from zegdrut.roads import FIGURES
 from zegdrut.measurements.goodness_of_fit import (
-    compare_hours, compare_speeds, compute_speed, list_left_out, make_model, simulate_days)
+    compare_hours, compare_speeds, compute_speed, list_left_out, make_model, simulate_day, simulate_days)
 from zegdrut.measurements import Station, read_counts, read_stations
 from zegdrut.program import programs
 from zegdrut.roads import Clock
@@ -232,10 +232,10 @@ class Commands(MeasuredChecks):
         self.check("the nearest stations", [[None if one is None else str(one) for one in column] for column in field],
               [["100.0", "100.0", "50.0", "50.0"], ["100.0", "100.0", "nan", "nan"], ["100.0", "100.0", None, None], ["100.0", "100.0", "nan", "nan"]])
         parts = [tuple(map(float, part)) for part in re.findall(r'class="no-data" x="([0-9.]+)" y="([0-9.]+)" width="([0-9.]+)" height="([0-9.]+)"',
-                                                                draw_space_time(model))]
+                                                                draw_space_time(model, simulate_day(model, model.seed, with_rows=True).rows))]
         width, height = (640 - 58 - 12) / 4, round((230 - 26 - 34) * 11 / 21, 1)  # (267 cells are 21 pieces of 13; the middle one is nearer to b)
         self.check("hatched parts", parts, [(round(58 + place * width, 1), 26.0, round(width, 1), height) for place in (1, 3)])
-        self.check("its legend", ">no data</text>" in draw_space_time(model), True)
+        self.check("its legend", ">no data</text>" in draw_space_time(model, simulate_day(model, model.seed, with_rows=True).rows), True)
         lanes = dataclasses.replace(measured, main=[series[0], dataclasses.replace(series[1], station=Station("b, left", 2.0, 1))])
         lines = format_speeds(dataclasses.replace(model, measured=lanes), [[[passed(10, 20)] * 4]])
         self.check("a name with a comma", list(csv.reader(lines))[1], ["b, left", "1.9875", "1", "4.0", "4.0"])

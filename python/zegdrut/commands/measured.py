@@ -33,7 +33,7 @@ from ..measurements.congestion import (CONGESTED, DEPARTURE, LONG_INTERVAL, Both
 from ..measurements.counts_on_road import SPACE_MEAN, TIME_MEAN, Measured, put_on_road
 from ..measurements.goodness_of_fit import (
     Day, Hour, Model, compare_hours, compare_speeds, list_left_out, make_model, make_interval_records,
-    compute_total_rmse, compute_share_below, simulate_day, with_measured_demand, with_stations)
+    compute_total_rmse, compute_share_below, with_measured_demand, with_stations)
 from ..measurements.stations import HEADERS, Counts, correct_counts, read_counts, read_stations
 from ..reports.outputs import format_csv, prepare_file, prepare_folder
 from ..reports.pictures import MEASURED, NO_DATA, SIMULATED, Chart, Field, Line, draw_field, draw_scale, stack_drawings, make_speed_field
@@ -364,9 +364,8 @@ def make_measured_field(model: Model, pieces: int) -> Field:
             for place in range(measured.intervals)]
 
 
-def draw_space_time(model: Model) -> str:
-    """Return the measured and the simulated space-time diagram with the same colour scale, as SVG."""
-    rows = simulate_day(model, model.seed, with_rows=True).rows
+def draw_space_time(model: Model, rows: Sequence[str]) -> str:
+    """Return the measured and the simulated space-time diagram with the same colour scale, as SVG. `rows` are those of the first day."""
     road, clock = model.road, model.measured.clock
     km = road.to_km(road.length)
     simulated = make_speed_field([row[road.approach:] for row in rows], A_MINUTE, CELLS_A_PIECE)
@@ -402,7 +401,7 @@ def compare(given: argparse.Namespace, out: Path) -> None:
     print_lines(model.road.notes)
     report_progress(f"simulating {count_things(given.days, 'day')}")
     bar = Bar("days", in_log=True)
-    judged = simulate_segments(model, list_segments(model), given.days, bar.show)
+    judged = simulate_segments(model, list_segments(model), given.days, bar.show, with_rows=True)
     bar.end()
     days = [one.passed for one in judged]
     hours = compare_hours(measured, days)
@@ -417,7 +416,7 @@ def compare(given: argparse.Namespace, out: Path) -> None:
                  *describe_calibration(None if given.demand == "counts" else figures.calibration, given.days)])
     window = format_window(model)
     (folder / f"comparison-{model.name}-{window}.svg").write_text(draw_comparison(model, days), encoding="utf-8")
-    (folder / f"space-time-{model.name}-{window}.svg").write_text(draw_space_time(model), encoding="utf-8")
+    (folder / f"space-time-{model.name}-{window}.svg").write_text(draw_space_time(model, judged[0].rows), encoding="utf-8")
     print(f"The tables and pictures are in {folder}", file=sys.stderr)
 
 

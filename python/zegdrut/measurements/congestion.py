@@ -73,13 +73,15 @@ States = list[list["bool | None"]]
 
 class JudgedDay(NamedTuple):
     """A simulated day: what passed the compared stations, and for each interval the sums over the cars near each of them and over the cars
-    on each segment. `admitted` are the cars that entered at each inlet in the whole run, and `at` is what passed the station of each segment."""
+    on each segment. `admitted` are the cars that entered at each inlet in the whole run, and `at` is what passed the station of each segment.
+    `rows` are those of the window, if they are kept."""
 
     passed: Day
     near: list[list[Sums]]
     on: list[list[Sums]]
     admitted: Sequence[int] = ()
     at: Sequence[list[Passed]] = ()
+    rows: Sequence[str] = ()
 
 
 class Intervals(NamedTuple):
@@ -456,17 +458,18 @@ def list_segments(model: Model) -> list[Segment]:
 
 
 def simulate_segments(model: Model, segments: Sequence[Segment], days: int,
-                      progress: Callable[[int, int], None] | None = None) -> list[JudgedDay]:
-    """Simulate days in parallel: the seed of the road, and the ones after it."""
-    return simulate_days(lambda seed: simulate_segment_day(model, segments, seed), range(model.seed, model.seed + days), progress)
+                      progress: Callable[[int, int], None] | None = None, with_rows: bool = False) -> list[JudgedDay]:
+    """Simulate days in parallel: the seed of the road, and the ones after it. With `with_rows` the first one keeps its rows."""
+    return simulate_days(lambda seed: simulate_segment_day(model, segments, seed, with_rows and seed == model.seed),
+                         range(model.seed, model.seed + days), progress)
 
 
-def simulate_segment_day(model: Model, segments: Sequence[Segment], seed: int) -> JudgedDay:
-    """Simulate one day."""
+def simulate_segment_day(model: Model, segments: Sequence[Segment], seed: int, with_rows: bool = False) -> JudgedDay:
+    """Simulate one day, and keep its rows with `with_rows`."""
     run = simulate_day(model, seed, with_rows=True, with_entries=True)
     return JudgedDay(run.day, [sum_near(model, run.rows, cell) for cell in model.road.detectors[:len(model.detectors)]],
                      [sum_intervals(model, run.rows, one.first, one.last) for one in segments], run.admitted,
-                     [[run.first, *run.day][one.number] for one in segments])
+                     [[run.first, *run.day][one.number] for one in segments], run.rows if with_rows else ())
 
 
 def compare_time_lost(segments: Sequence[Segment], days: Sequence[JudgedDay], share: float = CONGESTED, at_stations: bool = False) -> Both | None:
