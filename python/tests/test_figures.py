@@ -13,6 +13,7 @@ from zegdrut.figures import (FREEWAY, Figure, Mean, Of, RoadRun, Value, choose, 
 from zegdrut.figures import Window, days as figures_of_days
 from zegdrut.figures.queues import Ends, Waits, average_lost, compare_ends, with_lost
 from zegdrut.figures.table import SHOWN
+from zegdrut.figures.trips import compute_travel_times_by_entry
 from zegdrut.roads import Drivers
 
 DETECTORS = [20, 60, 90]
@@ -184,6 +185,22 @@ class Table(unittest.TestCase):
                 self.assertEqual([alone.after for alone in measure_day([figure], runs[1])], [value.after if figure.of_road else None], what)
             self.check_lost(chance, case, runs[1], watched[1], figures)
         self.assertEqual(known, OF_ROAD.keys() | OF_CHANGE.keys())
+
+    def test_travel_times_by_entry(self) -> None:
+        """Group the cars by the time of their entry, in periods of 37 steps that begin with the window: at each detector, and at the end."""
+        runs, watched, _ = run_day(random.Random(12), first=50, origin=0)
+        for run, seen in zip(runs, watched):
+            wanted: dict[int, list[list[int]]] = {}
+            for (place, number), step in sorted(seen.arrivals.items(), key=str):
+                entry = number // 16
+                if entry >= 50 and step < LAST:
+                    begin = max(first for first in range(50, LAST, 37) if first <= entry)
+                    sums = wanted.setdefault(begin, [[0, 0] for _ in range(len(DETECTORS) + 1)])[len(DETECTORS) if place is None else place]
+                    sums[0] += 1
+                    sums[1] += step - entry
+            found = compute_travel_times_by_entry(run.trips, run.window, 37)
+            self.assertEqual({begin: [list(one) for one in times] for begin, times in found.items()}, wanted)
+            self.assertGreater(len(wanted), 5)
 
     def check_lost(self, chance: random.Random, case: int, run: RoadRun, watched: Watched, figures: list[Figure]) -> None:
         """Compare lost cars with known arrivals minus entries: at a ramp from 3 cars on, and never fewer than none. Without arrivals they are
