@@ -2,6 +2,7 @@
 from __future__ import annotations
 
 import collections
+import random
 import unittest
 
 from checked import Checked
@@ -9,7 +10,7 @@ from delay_recipe import ALWAYS, Edits, PLAN, close_cell
 from zegdrut import Plan, RoadLab
 from zegdrut.figures import Trips, Window, compare_delays, compute_demands, to_vehicle_hours
 from zegdrut.figures.delay_by_car import Delay, Entered, Entries, Group
-from zegdrut.figures.lost_demand import compute_supplies
+from zegdrut.figures.lost_demand import compute_supplies, find_entry
 from zegdrut.figures.queues import read_roads, run_day
 from zegdrut.figures.trips import CHECKPOINT
 from zegdrut.program import Script
@@ -198,6 +199,22 @@ class Cars(Checked):
                 anew.follow(lab, "A", 2_500)
                 for name in ("left", "passed", "cars"):
                     self.check(f"step {step}: {name}", getattr(trips, name), getattr(anew, name))
+
+
+class FreeEntries(unittest.TestCase):
+    def test_cells_without_slowing(self) -> None:
+        """Count the cells at the beginning of random roads in which nobody is slowed: they are the entry of an inlet that is not before their end."""
+        chance = random.Random(6)
+        found = set()
+        for _ in range(40):
+            zone = chance.randrange(7, 30)
+            zones = [(5, 0)] * chance.randrange(4) + [(4, chance.choice((0, 9_000, 12_000))) for _ in range(3)]
+            plan = Plan(length=zone * len(zones), zone=zone, zones=zones, inlets=[(0, 9)]).to_line()
+            for cell in (0, zone, 2 * zone, 2 * zone + 5):
+                free = next((place for place in range(zone * len(zones)) if zones[place // zone][1]), zone * len(zones))
+                self.assertEqual(find_entry(plan, cell), free if free <= cell else 0)
+                found.add(find_entry(plan, cell))
+        self.assertGreater(len(found), 10)
 
 
 class Periods(unittest.TestCase):
