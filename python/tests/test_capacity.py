@@ -100,6 +100,13 @@ class Capacity(unittest.TestCase):
         self.assertEqual([shape for shape in make_shapes(figures, road, [[(0, 60_000)]]) if shape[3]],
                          [("capacity", 3, 3, 600, 1_800, (900, 2, found.slowing, found.slowing))])
 
+    def test_the_last_zone_is_narrower(self) -> None:
+        """Zones of 120 cells leave 80 for the last one of a road of 320: its works have the drivers of 80 cells."""
+        road = make_road(read_figures(sections=[{"first": 1.8, "last": 2.4, "begin": 10, "end": 30, "capacity": 900}], zone=0.9))
+        found, other = (find_capacity(900, 54, Drivers(5, 10_486, 29_491), cells) for cells in (80, 120))
+        self.assertEqual([value for kind, zone, step, value in road.edits if (kind, zone, step) == ("slow", 2, 600)], [found.slowing])
+        self.assertNotEqual(found.slowing, other.slowing)
+
     def test_refusals(self) -> None:
         """Each refusal says what to do."""
         place = "the section from km 0.9 to 1.2: "
