@@ -387,6 +387,22 @@ class Away(Faults):
             await until(is_open, "it is open")
             self.assertEqual(site.state()["state"], "away")
 
+    async def test_a_site_whose_hash_takes_long_is_heard(self) -> None:
+        broker = self.broker()
+        hold = asyncio.Event()
+
+        async def waits(site: Sites) -> str:
+            await hold.wait()
+            return ""
+        with mock.patch.object(Sites, "_hash_road", waits), mock.patch("server.sites.sites.ANNOUNCE_EVERY", 0.2), \
+                mock.patch("server.sites.sites.HEARD", 3.0):
+            north = await self.site(broker.port, "north")
+            await self.are_connected([north])
+            for _ in range(30):
+                await asyncio.sleep(0.2)
+                self.assertEqual(north[1].state()["state"], "connected")
+            hold.set()
+
     async def test_only_an_announcement_of_a_moment_ago_shows_that_the_connection_is_heard(self) -> None:
         """An older one, or that of another site, does not."""
         bus, now = Bus(), [1_000.0]

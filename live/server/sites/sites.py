@@ -99,6 +99,7 @@ class Sites:
     async def __aenter__(self) -> Sites:
         self._loop, warn = asyncio.get_running_loop(), self._keeper.listeners.ended.notify
         self._tasks = [supervise("the announcements to other sites", self._announce_forever, warn),
+                       supervise("the hashes for other sites", self._compare_forever, warn),
                        supervise("the messages of other sites", lambda: self._inbox.take_for_ever(self._receive_waiting), warn),
                        supervise("the connection to the broker", self._stay_connected, warn, self._has_lasted)]
         return self
@@ -246,14 +247,25 @@ class Sites:
     async def _announce_forever(self) -> None:
         while True:
             await asyncio.sleep(ANNOUNCE_EVERY)
+            self._announce_site()
+            self._tell()
+
+    async def _compare_forever(self) -> None:
+        # It does not announce the site, since the hash of a long road takes longer than a site may be silent.
+        while True:
+            await asyncio.sleep(ANNOUNCE_EVERY)
             try:
-                await self.announce()
+                await self.compare()
             except Refused as fault:
-                logging.warning("this site was not announced: %s", fault.why)
+                logging.warning("the hashes of this site were not sent: %s", fault.why)
 
     async def announce(self) -> None:
-        """Announce this site and the hashes of its operations, and send operations that the broker has not returned."""
+        """Announce this site, and compare it with others."""
         self._announce_site()
+        await self.compare()
+
+    async def compare(self) -> None:
+        """Send the operations that the broker has not returned, and the hashes of all."""
         self.send_shared()
         unsent = self._keeper.state.unsent
         self._sent = {one: when for one, when in self._sent.items() if one in unsent}
