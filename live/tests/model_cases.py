@@ -258,6 +258,16 @@ class Cases(unittest.TestCase):
                 self.assertEqual(in_every_order([*held, again]).layers, road.layers)
                 self.assertEqual(in_every_order([*held, again, undo(6, again, BEN)]).layers, road.layers)
 
+    def test_an_undo_that_names_a_layer_is_not_forgotten_before_what_sets_that(self) -> None:
+        """Otherwise the layer would come into force."""
+        gone = undo(2, CLOSURE, ADA)
+        hostile = named(Operation((3, ""), gone.stamp, LONGER, about=BEN))
+        road = EMPTY.adding([CLOSURE, gone])
+        self.assertEqual(choices.find_forgettable(road, EMPTY, [CLOSURE, gone], 0), {CLOSURE, gone})
+        held = road.adding([hostile])
+        self.assertEqual(choices.find_forgettable(held, EMPTY.adding([hostile]), [CLOSURE, gone], 0), set())
+        self.assertEqual(choices.find_forgettable(held, EMPTY, [CLOSURE, gone, hostile], 0), {CLOSURE, gone, hostile})
+
     def test_a_lost_own_change_stays_private_and_counts_again_when_the_winner_is_undone(self) -> None:
         adas, bens = change(BASE, 2, LINE, WIDE, about=ADA), change(BASE, 3, LINE, LONGER, about=BEN)
         shared = BASE.adding([bens])

@@ -111,6 +111,8 @@ def is_needed(road: Road, operation: Operation, gone: set[Operation]) -> bool:
     operations = road.operations
     if operation.site in operations.excluded or operation.excludes is not None:
         return True
+    if operation.line is None and not gone.issuperset(road.changes_of(operation.stamp)):
+        return True  # without it they would set a layer of its name
     if operation in operations.void:
         return not gone.issuperset(operations.undos_of(operation))
     if operation.undoes is not None:
