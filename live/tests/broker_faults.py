@@ -14,12 +14,13 @@ import time
 from typing import Any, AsyncIterator, Awaitable, Callable
 from unittest import mock
 
-from faulty import Bus, Disk, Here, message_of, told, written
+from faulty import Bus, Disk, Here, Message, message_of, told, written
 from running import ALL, SMALL, Broker, Case, patience, until
 from server.base import supervised
 from server.base.json_values import to_json
 from server.model.operations import About, Shape, put
 from server.sites import brokers
+from server.sites.inbox import MOST_WAITING
 from server.sites.sites import Sites
 
 FEFF = "\ufeff".encode()
@@ -386,6 +387,21 @@ class Away(Faults):
                 return fake.heard.count(PUBLISH) > 2
             await until(is_open, "it is open")
             self.assertEqual(site.state()["state"], "away")
+
+    async def test_announcements_and_hashes_do_not_fill_the_inbox(self) -> None:
+        """While operations wait for a slow disk, the broker's thread must go on reading."""
+        bus = Bus()
+        here = await self.enterAsyncContext(Here(site="north"))
+        site = bus.site(here)
+        for number in range(300):
+            site._announce_site()
+            for message in (bus.sent.pop(), Message(site._sum_topic, b"{}")):
+                await asyncio.wait_for(asyncio.to_thread(site._on_message, brokers.Arrival(*message, None), lambda: None), patience(20))
+        self.assertEqual(site.state()["behind"], MOST_WAITING // 2 - 1)
+        for number in range(16):
+            arrival = brokers.Arrival(site._operations_topic, b"{}", number)
+            await asyncio.wait_for(asyncio.to_thread(site._on_message, arrival, lambda: None), patience(20))
+        self.assertEqual(site.state()["behind"], MOST_WAITING // 2 + 15)
 
     async def test_a_site_whose_hash_takes_long_is_heard(self) -> None:
         broker = self.broker()

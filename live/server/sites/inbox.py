@@ -28,8 +28,10 @@ class Inbox(Generic[M]):
         """Return how many messages wait behind the one that is being taken."""
         return max(0, len(self._waiting) - 1)
 
-    def put(self, loop: asyncio.AbstractEventLoop, message: M, acknowledge: Callable[[], None]) -> None:
-        """Put a message. (The broker's thread calls this.)"""
+    def put(self, loop: asyncio.AbstractEventLoop, message: M, acknowledge: Callable[[], None], may_be_lost: bool) -> None:
+        """Put a message; leave out one that may be lost if many wait. (The broker's thread calls this.)"""
+        if may_be_lost and len(self._waiting) >= MOST_WAITING // 2:
+            return
         while not self._room.acquire(timeout=LOOK):
             if self._is_closed:
                 return

@@ -189,7 +189,7 @@ class Sites:
         if over or is_known:
             acknowledge()
         else:
-            self._inbox.put(self._loop, (message.topic, run, body), acknowledge)
+            self._inbox.put(self._loop, (message.topic, run, body), acknowledge, message.topic != self._operations_topic)
 
     def _look_for_echo(self, body: bytes) -> None:
         """Note that the connection is heard if a message has what an announcement of this site had in `echo` a moment ago."""
