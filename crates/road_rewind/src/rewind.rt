@@ -26,8 +26,8 @@ use std::alloc::Global;
 /// scenario, and its horizon is the greater of the old horizon and `to`. The old sheet is unchanged.
 ///
 /// The scenario must fit the sheet's plan, and `to` must be at most 1,048,576. If the call succeeds, the meter counts
-/// exactly the steps that were computed. If no simulated step is touched, these are the steps after the old horizon.
-/// Otherwise they are the steps from the touched one on, and those before it back to the checkpoint, at most 63.
+/// exactly the steps after the old horizon, if no simulated step is touched. Otherwise it counts exactly the steps from
+/// the touched one on, and those before it back to the checkpoint, at most 63.
 ///
 /// # Errors
 ///
@@ -46,11 +46,11 @@ pub fn grown<C: Crew>(
     ensures sheet { IfOk result (λ done. done.sheet ≡ grown_sheet sheet.now scenario.now to) }
     ensures above { IfOk result (λ done. IsAtMost sheet.now done.sheet) }
     ensures touched { IfOk result (λ done. done.touched ≡ touched_step sheet.now scenario.now) }
-    // If it succeeds, each computed step is counted: those from where the run resumes.
+    // If it succeeds, the steps from where the run resumes are counted.
     ensures steps { IfOk result (λ _. meter.new
         ≡ meter_after meter.old (max sheet.now.horizon to - draft_start sheet.now.horizon
         (kept_step sheet.now.horizon (touched_step sheet.now scenario.now)))) }
-    // If no simulated step is touched, only the new steps are computed.
+    // If no simulated step is touched, these are only the new steps.
     ensures new_steps { IfOk result (λ _.
         kept_step sheet.now.horizon (touched_step sheet.now scenario.now) ≡ sheet.now.horizon
         → meter.new ≡ meter_after meter.old (max sheet.now.horizon to - sheet.now.horizon)) }
@@ -150,6 +150,7 @@ fn simulate_span<C: Crew>(
     let steps = span.steps();
     cars_stay_on_road(span.plan());
     let Some(ran) = crew.run(alloc, span, road)? else {
+        // The span has steps, and every car of its road can be held in a run.
         unreachable!();
     };
     draft.push_span(alloc, span, &ran)?;

@@ -133,7 +133,7 @@ impl<J: Naming, R: Wait + Drop> Held<J, R> {
 
     /// Make the write of a session, given the session's share of the ledger. If the write is accepted, its command is
     /// the last entry of the journal, readers see its sheet, and the share counts one more write. Return its place in
-    /// the journal and the reply. The meter counts exactly the steps that are computed.
+    /// the journal and the reply. The meter counts the steps of the write.
     ///
     /// # Errors
     ///

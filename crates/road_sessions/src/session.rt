@@ -123,9 +123,8 @@ impl<J: Naming> Session<J> {
 
     // ---- writes, under the lock
 
-    /// Take edits. The reply is the touched step. If the write is accepted, the meter counts exactly the steps that are
-    /// computed: none if no simulated step is touched, and otherwise those from the last checkpoint at or before the
-    /// touched step up to the horizon.
+    /// Take edits. The reply is the touched step. If the write is accepted, the meter counts exactly the steps from the
+    /// last checkpoint at or before the touched step up to the horizon, or none if no simulated step is touched.
     ///
     /// # Errors
     ///

@@ -23,7 +23,7 @@ pub fn headline_holds()
     ensures messages { (plan : Plan) (count : ℕ) (events : List Event) (replies : List (Result Reply WorldFault)) →
         (world_of_winners (world_of_events plan count events replies)).messages
         ≡ map message_of_winners (world_of_events plan count events replies).messages }
-    // An accepted event computes no more steps than a refused one may.
+    // An accepted event counts no more steps than a refused one may.
     ensures steps { (world : World) (event : Event) → steps_of_event world event ≤ most_steps_of_event world event }
     // If each event has its answer, no stamp is issued twice, and no issued stamp is that of an import.
     ensures stamps { (plan : Plan) (count : ℕ) (events : List Event) (replies : List (Result Reply WorldFault)) →

@@ -38,7 +38,8 @@ pub struct Played {
 ///
 /// # Errors
 ///
-/// `OutOfMemory` if there was no memory to open the world or for the list of replies. No step is computed then.
+/// `OutOfMemory` if there was no memory to open the world or for the list of replies. The meter has counted no step
+/// then.
 pub fn play<C: Crew>(
     alloc: Global,
     plan: Arc<Plan>,

@@ -240,10 +240,9 @@ impl World {
     // ---- events
 
     /// Apply an event: its replica writes, or makes a message. Before an accepted write returns, every simulated step
-    /// shows its edits. The meter counts exactly the steps that are computed for it. For edits these are the steps from
-    /// the last checkpoint at or before the touched step up to the horizon, or none if no simulated step is touched.
-    /// For an advance they are the new steps. The meter counts none for a message, or for an event that is refused for
-    /// a named cause.
+    /// shows its edits. The meter counts exactly these steps: for edits those from the last checkpoint at or before the
+    /// touched step up to the horizon, or none if no simulated step is touched; for an advance the new steps; none for
+    /// a message, or for an event that is refused for a named cause.
     ///
     /// # Errors
     ///
