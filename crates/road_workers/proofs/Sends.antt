@@ -1,20 +1,19 @@
 -- What follows from the result of sending a job: the worker took it, or has gone.
 use Rattle.std.specs.Prelude.{◌≡◌, ℕ, List, Result, slice_index_or, OnOk}
 use Rattle.std.specs.Borrow.{Bor}
-use Rattle.std.specs.declared.alloc.Global.{Global}
 use Rattle.std.specs.declared.result.Result.TheVariants.{Ok, Err}
 use Rattle.std.proofs.Common.{◌∙◌, refl, sym, subst}
-use Rattle.crossbeam_channel.specs.declared.channel.Sender.{Sender}
 use Rattle.crossbeam_channel.specs.declared.err.SendError.{SendError}
 use Rattle.crossbeam_channel.specs.declared.err.SendError.TheVariants as Send
 use Rattle.road_workers.specs.declared.faults.CrewFault.{CrewFault}
 use Rattle.road_workers.specs.declared.faults.CrewFault.TheVariants as Fault
 use Rattle.road_workers.specs.declared.pool.job.Job.{Job}
+use Rattle.road_workers.specs.declared.pool.job.JobSender.{JobSender}
 use Rattle.road_workers.specs.declared.pool.Worker.{Worker}
 use Rattle.road_workers.specs.Private.Jobs.{IsAnswered, Sends}
 
 -- what was sent was answered by the worker whose channel it is
-pub answered : (sends : Sends) (workers : List Worker) (w : ℕ) {channel : Bor (Sender Job Global)} {job : Job} {given : Result (Unit {0}) (SendError Job)}
+pub answered : (sends : Sends) (workers : List Worker) (w : ℕ) {channel : Bor JobSender} {job : Job} {given : Result (Unit {0}) (SendError Job)}
     (answer : Result (Unit {0}) (SendError Job)) → sends channel job given → given ≡ answer → ((d : Worker) → channel.now ≡ (slice_index_or workers w d).jobs)
     → IsAnswered sends workers w job answer
 answered sends workers w {channel} {job} answer sent is at = (channel, at, subst (sends channel job) is sent)

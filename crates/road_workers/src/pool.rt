@@ -1,6 +1,6 @@
 //! The crew whose threads live as long as the crew.
 
-ghost use Rattle.std.specs.Prelude.{◌≡◌, ◌<◌, ◌≤◌, vec_len, IfOk, IfSome, IsOk, IsSome, Err};
+ghost use Rattle.std.specs.Prelude.{◌≡◌, ◌<◌, ◌≤◌, vec_len, IfOk, IfSome, IsSome, Err};
 ghost use Rattle.std.specs.Arc.{arc_value};
 ghost use Rattle.road_plan.specs.declared.limits.TheConstants.{MOST_WORKERS};
 ghost use Rattle.road_ends.specs.Input.{input_speeds};
@@ -14,10 +14,13 @@ mod gathering;
 mod job;
 mod messages;
 mod places;
+mod replying;
 mod running;
 mod sharing;
 mod side_by_side;
+mod spawning;
 mod spin;
+mod starting;
 mod stepping;
 mod working;
 
@@ -25,26 +28,37 @@ use crate::crew::{Crew, gone_after};
 use crate::faults::CrewFault;
 use crate::gate::{Gate, NoGate};
 use crate::kept_run::KeptRun;
-use crate::pool::job::{Job, Reply};
+use crate::pool::job::JobSender;
 use crate::pool::messages::Inbox;
-use crate::pool::spin::{Lookout, processors_of};
-use crate::pool::stepping::speeds_by;
-use crate::pool::working::{Ends, work};
-use crossbeam_channel::{Sender, bounded};
+use crate::pool::replying::SaidGone;
+use crate::pool::spin::processors_of;
+use crate::pool::starting::{finish_workers, start_team};
 use road_columns::{RoadOrRun, SpanOutcome};
 use road_ends::{OutOfMemory, Span, StepInput};
 use road_plan::limits::GREATEST_HORIZON;
 use std::alloc::Global;
 use std::marker::Model;
 use std::sync::{Arc, Wait};
-use std::thread;
 use std::thread::{JoinHandle, Threads};
 
-// A worker: the end of its channel of jobs, which has room for one, and its thread.
+// A worker: the end of its channel of jobs, and its thread, which ends only after it has said so.
 #[derive(Drop)]
 struct Worker {
-    jobs: Sender<Job>,
-    thread: JoinHandle<()>,
+    jobs: JobSender,
+    thread: JoinHandle<SaidGone>,
+}
+
+// The workers of a pool, and what their caller needs for its calls.
+#[derive(Drop)]
+struct Team<R> {
+    rt: R,
+    workers: Vec<Worker>,
+    // The caller's end of the channel of replies, with room for one reply of each worker.
+    inbox: Inbox,
+    // The number of processors that its threads can use.
+    processors: u32,
+    // The run that is kept for the caller's own stretches.
+    kept: KeptRun,
 }
 
 /// The crew whose workers are threads that live as long as the crew. A call for the speeds of a step gives every worker
@@ -54,28 +68,23 @@ struct Worker {
 /// count of these answers.
 #[derive(Drop)]
 pub struct Pool<R> {
-    rt: R,
-    workers: Vec<Worker>,
-    // The caller's end of the channel of replies, with room for one reply of each worker.
-    inbox: Inbox,
-    // The number of processors that its threads can use.
-    processors: u32,
-    // The run that is kept for the caller's own stretches.
-    kept: KeptRun,
+    team: Team<R>,
     // How often it has answered `WorkersGone`. After the first time no worker is given a job.
     gone: u64,
 }
 
 impl<R> Model for Pool<R> {
-    ghost use Rattle.std.specs.Prelude.{◌<◌, ◌≤◌, vec_len};
+    ghost use Rattle.std.specs.Prelude.{◌≡◌, ◌↔◌, ◌<◌, ◌≤◌, vec_len, true};
     ghost use Rattle.road_plan.specs.declared.limits.TheConstants.{MOST_WORKERS};
     ghost use Rattle.road_workers.specs.Crews.{CrewOfThreads};
 
     ghost Value = { CrewOfThreads };
 
-    ghost view = { λ pool. record { workers = vec_len pool.workers; gone = pool.gone } };
+    ghost view = { λ pool. record { workers = vec_len pool.team.workers; gone = pool.gone } };
 
-    ghost invariant = { λ pool. (0 < vec_len pool.workers) × (vec_len pool.workers ≤ MOST_WORKERS) };
+    // It has answered `WorkersGone` exactly if its last call has lost a worker.
+    ghost invariant = { λ pool. (0 < vec_len pool.team.workers) × (vec_len pool.team.workers ≤ MOST_WORKERS)
+        × ((0 < pool.gone) ↔ (pool.team.inbox.lost ≡ true)) };
 }
 
 impl<R: Threads + Wait + Clone + Drop + Send + 'static> Pool<R> {
@@ -133,42 +142,19 @@ impl<R: Threads + Wait + Clone + Drop + Send + 'static> Pool<R> {
         ensures workers { IfOk result (λ pool. pool.workers ≡ workers) }
         ensures gone { IfOk result (λ pool. ⟦<Pool<R> as Crew>⟧.times_gone pool ≡ 0) }
     {
-        let mut started = Vec::with_capacity(alloc, workers as usize)?;
-        let (reply, replies) = bounded(alloc, workers as usize)?;
-        let inbox = Inbox {
-            replies,
-            lookout: Lookout::of(workers + 1, processors),
-            lost: false,
-        };
-        let outfit = Outfit {
-            gate,
-            replies: reply,
-            lookout: Lookout::of(workers, processors),
-        };
-        let all = start_workers(&rt, alloc, workers, &outfit, &mut started);
-        drop(outfit);
-        if let Err(fault) = all {
-            finish_workers(&rt, inbox, started);
-            return Err(fault);
-        }
-        Ok(Pool {
-            rt,
-            workers: started,
-            inbox,
-            processors,
-            kept: KeptRun::none(),
-            gone: 0,
-        })
+        let team = start_team(rt, alloc, workers, gate, processors)?;
+        Ok(Pool { team, gone: 0 })
     }
 
     /// Stop the workers, and return when their threads have ended (which no clause says).
     pub fn finish(self) {
-        let Pool {
+        let Pool { team, .. } = self;
+        let Team {
             rt,
             workers,
             inbox,
             ..
-        } = self;
+        } = team;
         finish_workers(&rt, inbox, workers);
     }
 }
@@ -186,15 +172,7 @@ impl<R: Wait> Crew for Pool<R> {
         let answer = if self.gone > 0 {
             Err(CrewFault::WorkersGone)
         } else {
-            let rt = &self.rt;
-            speeds_by(
-                rt,
-                alloc,
-                input,
-                self.workers.as_slice(),
-                &|channel: &Sender<Job>, job: Job| channel.send(rt, job),
-                &mut self.inbox,
-            )
+            self.team.speeds(alloc, input)
         };
         self.gone = gone_after(&answer, self.gone);
         answer
@@ -226,7 +204,7 @@ impl<R: Wait> Crew for Pool<R> {
         let done = if self.gone > 0 {
             Err(CrewFault::WorkersGone)
         } else {
-            self.run_spans(alloc, span, road)
+            self.team.run_spans(alloc, span, road)
         };
         self.gone = gone_after(&done, self.gone);
         done
@@ -236,67 +214,4 @@ impl<R: Wait> Crew for Pool<R> {
 // Make the gate that does nothing, for all workers.
 fn no_gate(alloc: Global) -> Result<Arc<NoGate>, OutOfMemory> {
     Ok(Arc::new(alloc, NoGate)?)
-}
-
-// What each worker is given when it starts: the gate that it passes, its end of the channel of replies, and how it
-// looks for a job before it sleeps.
-#[derive(Drop)]
-struct Outfit<G> {
-    gate: Arc<G>,
-    replies: Sender<Reply>,
-    lookout: Lookout,
-}
-
-// Start the workers in their order, up to the first that cannot be started.
-fn start_workers<
-    R: Threads + Wait + Clone + Drop + Send + 'static,
-    G: Gate + Drop + Send + Sync + 'static,
->(
-    rt: &R,
-    alloc: Global,
-    workers: u32,
-    outfit: &Outfit<G>,
-    started: &mut Vec<Worker>,
-) -> Result<(), CrewFault>
-    requires { vec_len started.old ≡ 0 }
-    ensures { IsOk result → vec_len started.new ≡ workers }
-{
-    for worker in 0..workers {
-        let new = start_worker(rt, alloc, worker, outfit)?;
-        if started.push(new).is_err() {
-            return Err(CrewFault::OutOfMemory);
-        }
-    }
-    Ok(())
-}
-
-// Start a worker.
-fn start_worker<
-    R: Threads + Wait + Clone + Drop + Send + 'static,
-    G: Gate + Drop + Send + Sync + 'static,
->(rt: &R, alloc: Global, worker: u32, outfit: &Outfit<G>) -> Result<Worker, CrewFault> {
-    let (jobs, their_jobs) = bounded(alloc, 1)?;
-    let ends = Ends {
-        jobs: their_jobs,
-        replies: outfit.replies.clone()?,
-        lookout: outfit.lookout,
-    };
-    let gate = Arc::try_clone(&outfit.gate)?;
-    let their_rt = rt.clone()?;
-    let started = thread::spawn(rt, move || work(&their_rt, alloc, worker, &*gate, &ends));
-    match started {
-        Ok(thread) => Ok(Worker { jobs, thread }),
-        Err(_) => Err(CrewFault::WorkersGone),
-    }
-}
-
-// Close the workers' channels, and join their threads. The channel of replies is closed first, so that no worker waits
-// for room for its last message.
-fn finish_workers<R: Threads>(rt: &R, inbox: Inbox, workers: Vec<Worker>) {
-    drop(inbox);
-    for worker in workers {
-        let Worker { jobs, thread } = worker;
-        drop(jobs);
-        thread.join(rt);
-    }
 }

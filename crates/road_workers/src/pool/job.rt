@@ -11,11 +11,34 @@ ghost use Rattle.road_workers.specs.Private.Stretches.{IsRunnableNear, IsRunOf};
 use crate::kept_run::KeptRun;
 use crate::piece::{Piece, PieceAnswer};
 use crate::stretch::run_near;
+use crossbeam_channel::{Receiver, SendError, Sender, bounded};
 use road_cells::Road;
 use road_detector::SpanResult;
 use road_ends::{OutOfMemory, Span, StepInput, Stretch};
 use std::alloc::Global;
-use std::sync::Arc;
+use std::sync::{Arc, Wait};
+
+// The caller's end of a worker's channel of jobs, which has room for one. Contracts see the worker's number.
+#[derive(Drop)]
+pub(crate) struct JobSender {
+    worker: u32,
+    jobs: Sender<Job>,
+}
+
+impl JobSender {
+    // Make the channel of a worker. The worker's number tells it from all others of its pool.
+    pub fn channel(alloc: Global, worker: u32) -> Result<(JobSender, Receiver<Job>), OutOfMemory>
+        ensures { IfOk result (λ ends. ends.0.worker ≡ worker) }
+    {
+        let (jobs, their_jobs) = bounded(alloc, 1)?;
+        Ok((JobSender { worker, jobs }, their_jobs))
+    }
+
+    // Send a job to the worker.
+    pub fn send<R: Wait>(&self, rt: &R, job: Job) -> Result<(), SendError<Job>> {
+        self.jobs.send(rt, job)
+    }
+}
 
 // What a worker is to compute.
 #[derive(Drop)]

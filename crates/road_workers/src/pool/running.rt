@@ -1,8 +1,8 @@
 //! A span, run by the workers of a pool: each runs a stretch of the road. The caller runs one more if there is a
 //! processor for it.
 
-ghost use Rattle.std.specs.Prelude.{◌≡◌, ℕ, ◌+◌, ◌<◌, ◌≤◌, length, vec_len, true, Err, IfErr, IfOk, IfSome, IsSome};
-ghost use Rattle.std.specs.Prelude.{OnOk};
+ghost use Rattle.std.specs.Prelude.{◌≡◌, ℕ, ◌+◌, ◌<◌, ◌≤◌, length, vec_len, false, true, Err, IfErr, IfOk, IfSome, IsSome};
+ghost use Rattle.std.specs.Prelude.{OnErr, OnOk};
 ghost use Rattle.road_plan.specs.declared.limits.TheConstants.{GREATEST_LENGTH, MOST_WORKERS};
 ghost use Rattle.road_cells.specs.Cars.{cars_of};
 ghost use Rattle.road_ends.specs.Span.{span_road};
@@ -11,29 +11,29 @@ ghost use Rattle.road_columns.specs.RoadOrRun.{road_now};
 ghost use Rattle.road_columns.specs.UnderWay.{IsRunnable};
 ghost use Rattle.road_workers.specs.Crews.{CanBeRun};
 ghost use Rattle.road_workers.specs.Private.Gathered.{AreRun, AreThere};
-ghost use Rattle.road_workers.specs.Private.Jobs.{HasGone, TookStretch};
-ghost use Rattle.road_workers.specs.Private.Lost.{TellsLost};
+ghost use Rattle.road_workers.specs.Private.Jobs.{IsStretchJob, TookStretch};
+ghost use Rattle.road_workers.specs.Private.Lost.{IsLost, TellsLost};
 ghost use Rattle.road_workers.specs.Private.Stretches.{IsJoined, cut};
 ghost use Rattle.road_workers.specs.declared.faults.CrewFault.TheVariants as Fault;
 
 use crate::faults::CrewFault;
 use crate::kept_run::KeptRun;
-use crate::pool::job::{Done, Job, StretchAnswer, StretchJob};
-use crate::pool::messages::{Inbox, is_lost, next_done, result_of_send, send_each};
+use crate::pool::job::{Done, Job, JobSender, StretchAnswer, StretchJob};
+use crate::pool::messages::Inbox;
 use crate::pool::places::{are_there, places_for};
 use crate::pool::sharing::{Shares, is_shared};
 use crate::pool::side_by_side::{accept_run, put_side_by_side};
-use crate::pool::{Pool, Worker};
+use crate::pool::{Team, Worker};
 use crate::stretch::joining::{Joined, join_first, join_none, whole_run};
 use crate::stretch::{road_near, run_stretch, stretch_at};
 use crate::whole::run_alone;
-use crossbeam_channel::{SendError, Sender};
+use crossbeam_channel::SendError;
 use road_columns::{RoadOrRun, SpanOutcome, is_runnable};
 use road_ends::{OutOfMemory, Span, Stretch};
 use std::alloc::Global;
 use std::sync::Wait;
 
-impl<R: Wait> Pool<R> {
+impl<R: Wait> Team<R> {
     // Run a span, if it has steps: by the caller alone if workers would gain nothing.
     pub(super) fn run_spans(
         &mut self,
@@ -41,13 +41,17 @@ impl<R: Wait> Pool<R> {
         span: &Span,
         road: RoadOrRun,
     ) -> Result<Option<SpanOutcome>, CrewFault>
+        requires some { 0 < vec_len self.old.workers }
+        requires few { vec_len self.old.workers ≤ MOST_WORKERS }
         ensures road { IfOk result (λ done. IfSome done (λ ran. road_now ran.road
             ≡ span_road span.now (road_now road))) }
         ensures totals { IfOk result (λ done. IfSome done (λ ran. ran.totals.items
             ≡ span_totals span.now (road_now road))) }
         ensures some { IfOk result (λ done. CanBeRun span.now (road_now road) → IsSome done) }
-        ensures unchanged { self.new ≡ self.old }
+        ensures lost { TellsLost result self.new.inbox.lost }
+        ensures workers { vec_len self.new.workers ≡ vec_len self.old.workers }
     {
+        self.inbox.begin();
         if span.steps() == 0 {
             return Ok(None);
         }
@@ -76,7 +80,7 @@ impl<R: Wait> Pool<R> {
             alloc,
             shares,
             self.workers.as_slice(),
-            &|channel: &Sender<Job>, job: Job| channel.send(rt, job),
+            &|jobs: &JobSender, job: Job| jobs.send(rt, job),
             &mut self.inbox,
             &mut self.kept,
         )?;
@@ -87,7 +91,7 @@ impl<R: Wait> Pool<R> {
 // Run a span by the stretches of all workers, and the caller's own. If there are several faults, return the first of
 // these: a lost worker, why a job was not sent, the caller's own lack of memory. Jobs are sent by `send`.
 #[tactic(auto, using(crate::proofs::OneMore::missing_right))]
-fn run_side_by_side<R: Wait, F: Fn(&Sender<Job>, Job) -> Result<(), SendError<Job>>>(
+fn run_side_by_side<R: Wait, F: Fn(&JobSender, Job) -> Result<(), SendError<Job>>>(
     rt: &R,
     alloc: Global,
     shares: Shares,
@@ -97,6 +101,8 @@ fn run_side_by_side<R: Wait, F: Fn(&Sender<Job>, Job) -> Result<(), SendError<Jo
     kept: &mut KeptRun,
 ) -> Result<Joined, CrewFault>
     requires may_send { F.IsAlwaysCallable send.now }
+    requires begun { inbox.old.lost ≡ false }
+    requires silent { inbox.old.heard ≡ false }
     requires some { 0 < length workers.now }
     requires few { length workers.now ≤ MOST_WORKERS }
     requires own { shares.own ≤ 1 }
@@ -106,14 +112,15 @@ fn run_side_by_side<R: Wait, F: Fn(&Sender<Job>, Job) -> Result<(), SendError<Jo
     ensures sent { OnOk result ((w : ℕ) → w < length workers.now → TookStretch (F.post send.now) workers.now
         shares.entry.span.now shares.entry.road.now shares.entry.own w) }
     ensures lost { TellsLost result inbox.new.lost }
+    ensures gone { result ≡ Err Fault.WorkersGone → IsLost (F.post send.now) workers.now inbox.new.heard }
 {
-    inbox.lost = false;
     let count = workers.len() as u32;
     let mut places = places_for(alloc, count)?;
-    let (jobs, sent) = send_each(count, |worker| {
-        send_stretch(alloc, shares, workers, worker, send)
-    });
-    inbox.lost = is_lost(sent);
+    let (jobs, sent) = inbox.send_each(
+        workers,
+        &|worker: u32| stretch_job(alloc, shares, count, worker),
+        send,
+    );
     let front = run_own_stretch(alloc, shares, count, kept);
     take_stretches(rt, inbox, &mut places, jobs, shares)?;
     sent?;
@@ -121,29 +128,19 @@ fn run_side_by_side<R: Wait, F: Fn(&Sender<Job>, Job) -> Result<(), SendError<Jo
     Ok(put_side_by_side(shares, front, places)?)
 }
 
-// Send a worker its stretch. The result is `Ok` only if the worker took it, and `WorkersGone` only if the worker has
-// gone.
-fn send_stretch<F: Fn(&Sender<Job>, Job) -> Result<(), SendError<Job>>>(
-    alloc: Global,
-    shares: Shares,
-    workers: &[Worker],
-    worker: u32,
-    send: &F,
-) -> Result<(), CrewFault>
-    requires may_send { F.IsAlwaysCallable send.now }
+// Make the job of a worker's stretch, for `workers` workers.
+fn stretch_job(alloc: Global, shares: Shares, workers: u32, worker: u32) -> Result<Job, OutOfMemory>
     requires own { shares.own ≤ 1 }
-    requires few { length workers.now ≤ MOST_WORKERS }
+    requires few { workers ≤ MOST_WORKERS }
     requires runnable { IsRunnable 0 shares.span.now.plan.cells shares.span.now.plan shares.road.now }
-    requires there { worker < length workers.now }
-    ensures took { OnOk result (TookStretch (F.post send.now) workers.now shares.entry.span.now shares.entry.road.now
-        shares.entry.own worker) }
-    ensures gone { result ≡ Err Fault.WorkersGone → HasGone (F.post send.now) workers.now worker }
+    requires there { worker < workers }
+    ensures { IfOk result (IsStretchJob shares.entry.span.now shares.entry.road.now shares.entry.own workers worker) }
 {
     let Shares { span, road, .. } = shares;
-    let stretch = shares.stretch_of(workers.len() as u32, worker);
+    let stretch = shares.stretch_of(workers, worker);
     let near = road_near(alloc, span, road, stretch)?;
-    let job = StretchJob::new(span.copied()?, near, stretch);
-    result_of_send(send(&workers[worker as usize].jobs, Job::Stretch(job)))
+    let span = span.copied()?;
+    Ok(Job::Stretch(StretchJob::new(span, near, stretch)))
 }
 
 // Run the caller's stretch, which comes before those of the workers, in a run that is kept. If the caller has no
@@ -184,7 +181,8 @@ fn take_stretches<R: Wait>(
     requires gathered { AreRun shares.span.now shares.road.now shares.own places.old.items }
     ensures there { OnOk result (AreThere workers places.new.items) }
     ensures heard { OnOk result (inbox.new.lost ≡ inbox.old.lost) }
-    ensures lost { IfErr result (λ fault. (fault ≡ Fault.WorkersGone) × (inbox.new.lost ≡ true)) }
+    ensures gone { IfErr result (λ fault. fault ≡ Fault.WorkersGone) }
+    ensures lost { OnErr result ((inbox.new.lost ≡ true) × (inbox.new.heard ≡ true)) }
     ensures count { vec_len places.new ≡ vec_len places.old }
     ensures gathered { AreRun shares.entry.span.now shares.entry.road.now shares.entry.own places.new.items }
 {
@@ -192,7 +190,7 @@ fn take_stretches<R: Wait>(
         if are_there(places.as_slice(), workers) {
             return Ok(());
         }
-        if let Done::Stretch(done) = next_done(rt, inbox)? {
+        if let Done::Stretch(done) = inbox.next_done(rt)? {
             accept_run(places, done, shares);
         }
     }

@@ -1,6 +1,6 @@
 //! A worker of a pool.
 
-ghost use Rattle.std.specs.Prelude.{◌≡◌, Ok, Err, IfErr, IsFalse, IsTrue};
+ghost use Rattle.std.specs.Prelude.{◌≡◌, Ok, Err, IsFalse, IsTrue};
 ghost use Rattle.crossbeam_channel.specs.Err.{send_message};
 ghost use Rattle.crossbeam_channel.specs.declared.err.SendError.{SendError};
 ghost use Rattle.crossbeam_channel.specs.declared.err.SendError.TheVariants.{Disconnected};
@@ -12,6 +12,7 @@ ghost use Rattle.road_workers.specs.declared.pool.job.Reply.TheVariants as Said;
 use crate::gate::Gate;
 use crate::kept_run::KeptRun;
 use crate::pool::job::{Done, Job, Reply};
+use crate::pool::replying::{SaidGone, deliver, say_gone};
 use crate::pool::spin::Lookout;
 use crossbeam_channel::{Receiver, SendError, Sender};
 use std::alloc::Global;
@@ -26,14 +27,15 @@ pub(crate) struct Ends {
 }
 
 // Do a worker's jobs. Its last message is that it has gone, for whatever reason, so that nobody waits for it in vain.
-pub(crate) fn work<R: Wait, G: Gate>(rt: &R, alloc: Global, worker: u32, gate: &G, ends: &Ends) {
+pub(crate) fn work<R: Wait, G: Gate>(
+    rt: &R,
+    alloc: Global,
+    worker: u32,
+    gate: &G,
+    ends: &Ends,
+) -> SaidGone {
     do_jobs(rt, alloc, worker, gate, ends);
-    say_gone(rt, &ends.replies);
-}
-
-// Say that a worker has gone.
-pub(crate) fn say_gone<R: Wait>(rt: &R, replies: &Sender<Reply>) {
-    deliver(rt, Reply::Gone, |reply: Reply| replies.send(rt, reply));
+    say_gone(rt, &ends.replies)
 }
 
 // Do a worker's jobs until its channel of jobs is closed, or nobody takes replies. The worker looks for a job before it
@@ -88,28 +90,4 @@ fn do_job(job: Job, alloc: Global, kept: &mut KeptRun) -> Done
         Job::Piece(job) => Done::Piece(job.compute(alloc)),
         Job::Stretch(job) => Done::Stretch(job.run(alloc, kept)),
     }
-}
-
-// Send a reply, and send it again if there was no memory for the message. Return whether it was taken; if not, nobody
-// takes replies.
-fn deliver<R: Wait, F: Fn(Reply) -> Result<(), SendError<Reply>>>(
-    rt: &R,
-    reply: Reply,
-    send: F,
-) -> bool
-    requires may_send { F.IsAlwaysCallable send }
-    requires handed_back { (given : Reply) → (fault : SendError Reply) → F.post send given (Err fault)
-        → send_message fault ≡ given }
-    ensures taken { IsTrue result → F.post send reply (Ok tt) }
-    ensures nobody { IsFalse result → F.post send reply (Err (Disconnected reply)) }
-{
-    let mut again = reply;
-    for _ in rt.forever() {
-        match send(again) {
-            Ok(()) => return true,
-            Err(SendError::Disconnected(_)) => return false,
-            Err(SendError::OutOfMemory(back)) => again = back,
-        }
-    }
-    unreachable!()
 }

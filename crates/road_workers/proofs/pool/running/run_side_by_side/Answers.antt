@@ -1,6 +1,8 @@
 -- All jobs were sent, so each worker took its stretch.
-use Rattle.std.proofs.Common.{rules, arith, ◌<◌, IsOk}
-use Rattle.road_workers.specs.Private.Jobs.{TookStretch}
+use Rattle.std.proofs.Common.{rules, arith, ◌≡◌, ◌<◌, IsOk, length, inr}
+use Rattle.std.specs.declared.result.Result.TheVariants.{Err}
+use Rattle.road_workers.specs.declared.faults.CrewFault.TheVariants as Fault
+use Rattle.road_workers.specs.Private.Jobs.{IsStretchJob}
 use Rattle.road_workers.proofs.pool.running.run_side_by_side.Goals as goal
 
 pub returns-clause-sent : goal.returns-clause-sent
@@ -8,6 +10,16 @@ returns-clause-sent g c = λ w below.
     let ok : IsOk c.send_each-jobs.result.1 = let is = c.in_ok-sent.is in search rules in
     let all = c.send_each-jobs.ensures.all ok in
     let sent : w < c.send_each-jobs.result.0 = grind (rules, arith) in
-    let its = c.send_each-jobs.ensures.sent w sent in
-    let took : TookStretch (goal.F-post g c.args.send.now) c.args.workers.now c.args.shares.span.now c.args.shares.road.now c.args.shares.own w = search rules in
-    took
+    let its = c.send_each-jobs.ensures.took w sent in
+    let job = its.0 in
+    let made = its.1 in
+    let is_its : IsStretchJob c.args.shares.span.now c.args.shares.road.now c.args.shares.own (length c.args.workers.now) w job = search rules in
+    (job, is_its, its.2)
+
+pub returns-in_err-sent-clause-gone : goal.returns-in_err-sent-clause-gone
+returns-in_err-sent-clause-gone g c = λ gone.
+    let is = c.in_err-sent.is in
+    let branch = c.branch-sent.ensures in
+    let from = c.from_residual-in_err-sent.ensures in
+    let why : c.send_each-jobs.result.1 ≡ Err Fault.WorkersGone = search rules in
+    inr (c.send_each-jobs.result.0, c.send_each-jobs.ensures.gone why)

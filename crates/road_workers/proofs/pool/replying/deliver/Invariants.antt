@@ -1,6 +1,6 @@
 -- The loop that sends a reply until it is taken, or nobody takes replies.
 use Rattle.std.proofs.Common.{◌≡◌}
-use Rattle.road_workers.proofs.pool.working.deliver.Given as goal
+use Rattle.road_workers.proofs.pool.replying.deliver.Given as goal
 
 abbrev pub invariant-loop : goal.invariant-loop
 invariant-loop g l = record {
