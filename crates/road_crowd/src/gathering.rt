@@ -35,7 +35,7 @@ use std::thread::Threads;
 /// # Errors
 ///
 /// `WorkersGone` if a thread could not be started, else `OutOfMemory` if an allocation failed or the store gave a
-/// session no reader. All threads have ended then.
+/// session no reader. All threads have ended then. (No clause says which error comes, nor that threads have ended.)
 pub fn crowd<W: Threads + Wait, G: Gate + Sync>(
     rt: &W,
     alloc: Global,

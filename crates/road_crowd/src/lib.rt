@@ -8,6 +8,7 @@
 //! ```
 #![tactic(auto)]
 
+mod arriving;
 mod faults;
 mod gathering;
 mod on_threads;

@@ -5,6 +5,7 @@ ghost use Rattle.road_replica.specs.Crowds.{shares_of};
 ghost use Rattle.road_sessions.specs.Sessions.{AreNewSessions};
 ghost use Rattle.road_crowd.specs.Private.Works.{AreAccepted, IsAccepted, share_entries, work_of, works_from};
 
+use crate::arriving::arrive;
 use crate::permit::Permit;
 use crate::work::work;
 use crossbeam_utils::sync::WaitGroup;
@@ -47,13 +48,6 @@ pub(crate) struct Task<'g, G> {
 // A session's thread.
 type Worker<J> = PromisedHandle<SessionResult<J>, WritesShare>;
 
-// Let a session arrive at the gate. It has written nothing yet.
-fn arrive<J: Naming, G: Gate>(gate: &G, session: &Session<J>)
-    requires { session.now.view.own ≡ [] }
-{
-    gate.arrive(session.number());
-}
-
 // Run a thread: its session arrives at the gate, and then makes its writes. The session stays in the group `taking`
 // until it has taken its edits or has failed.
 fn run_session<J: Naming, R: Wait + Drop, W: Wait, G: Gate>(
@@ -70,8 +64,16 @@ fn run_session<J: Naming, R: Wait + Drop, W: Wait, G: Gate>(
         (λ after. work_of after ≡ (session.number, share_entries session.number share.now task.now.to)) }
 {
     let mut session = session;
-    arrive(task.gate, &session);
-    work(rt, task.alloc, shared, &mut session, share, task.to, taking)?;
+    let arrived = arrive(task.gate, &session, taking);
+    work(
+        rt,
+        task.alloc,
+        shared,
+        &mut session,
+        share,
+        task.to,
+        arrived,
+    )?;
     Ok(session)
 }
 

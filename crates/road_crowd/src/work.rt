@@ -8,8 +8,8 @@ ghost use Rattle.road_sessions.specs.Merges.{entries_written};
 ghost use Rattle.road_sessions.specs.declared.entry.SheetCommand.TheVariants.{Advance, Take};
 ghost use Rattle.road_crowd.specs.Private.Works.{IsAccepted, share_entries};
 
+use crate::arriving::Arrived;
 use crate::faults::write_fault;
-use crossbeam_utils::sync::WaitGroup;
 use road_ends::Meter;
 use road_plan::OutOfMemory;
 use road_scenario::{Edit, Scenario};
@@ -18,7 +18,7 @@ use road_workers::Alone;
 use std::alloc::Global;
 use std::sync::Wait;
 
-// Make the writes of a session that has written nothing yet. It takes the edits of its share one after another, each as
+// Make the writes of a session that has arrived at the gate and written nothing yet. It takes the edits of its share one after another, each as
 // a scenario of one edit, and waits until all other sessions have taken theirs. Then it simulates up to the step.
 // Without the wait, each edit after the first advance would simulate the road again.
 pub(crate) fn work<J: Naming, R: Wait + Drop, W: Wait>(
@@ -28,7 +28,7 @@ pub(crate) fn work<J: Naming, R: Wait + Drop, W: Wait>(
     session: &mut Session<J>,
     share: &[Edit],
     to: u32,
-    taking: WaitGroup,
+    arrived: Arrived,
 ) -> Result<(), OutOfMemory>
     requires new { session.old.view.own ≡ [] }
     requires accepted { IsAccepted J.replica.sheet.plan to share.now }
@@ -40,7 +40,7 @@ pub(crate) fn work<J: Naming, R: Wait + Drop, W: Wait>(
     for edit in share {
         take(rt, alloc, shared, session, edit, &mut meter)?;
     }
-    taking.wait(rt);
+    arrived.wait_for_others(rt);
     advance(rt, shared, session, to, &mut meter)
 }
 
