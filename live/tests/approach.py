@@ -135,7 +135,7 @@ class Roads(Case):
                 lost = value(said, "after", "lost")
                 self.assertEqual(lost > 0, bool(bounds[0]))
                 self.assertEqual(rows["all hours"]["words"], f"Cars that cannot enter are lost: {lost:,.0f} at km -1.2 (mine); hours and delay leave them out; "
-                                 "in the comparison over days they wait before the road."
+                                 "over days they wait."
                                  if lost else "")
                 self.assertGreater(value(said, "difference", "approach hours"), 0)
                 await ada.ask("undo", key=f"u{cell}", stamp=put["stamp"])

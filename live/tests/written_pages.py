@@ -48,7 +48,7 @@ class Reports(Case):
             page = (await soon(here.ask(seat, "report", **ASKED, **SPAN)))["html"]
             figures = await soon(here.ask(seat, "figures", of=mine(seat), **SPAN))
             hours, = (row for row in figures["figures"] if row["figure"]["key"] == "hours")
-            self.assertRegex(hours["words"], r"^Cars that cannot enter are lost: .*; hours and delay leave them out; in the comparison over days they wait before the road\.$")
+            self.assertRegex(hours["words"], r"^Cars that cannot enter are lost: .*; hours and delay leave them out; over days they wait\.$")
             self.assertEqual((hours["bounds"], "are lost: " in page, float(rows_of(page)["vehicle hours waiting before km 0"][2]) > 0), (["at least"], False, True))
             self.assertGreater(float(rows_of(page)["delay, vehicle hours"][4]), value(figures, "difference", "delay"))
             with self.assertRaises(Refused) as caught:

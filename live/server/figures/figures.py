@@ -32,7 +32,7 @@ SECONDS = 60.0  # seconds for a question; the next one resumes where this one st
 STEPS_AT_ONCE = 1_920  # steps that are read at a time
 MOST_FIGURE_ROADS = 12  # roads that are kept
 NICE = 5  # below editing, above what takes longer
-OVER_DAYS = "; in the comparison over days they wait before the road"  # the end of a sentence on the lost cars of the shown day
+OVER_DAYS = "; over days they wait"  # the end of a sentence on the lost cars of the shown day
 ENTRY = 60  # steps: travel times are grouped by the minute in which the cars entered
 
 ComparedRoad = TypedDict("ComparedRoad", {"name": str, "edits": Sequence[WrittenEdit], "demands": Sequence[AskedRates], "capacities": Sequence[int]})
