@@ -38,7 +38,7 @@ def difference(before: Road, after: Road, within: set[Stretch] | None = None) ->
 
 
 def first_change(before: Road, after: Road, edits: Edits) -> int | None:
-    """Return the first step at which a value in force differs between two roads; None if there is none. `edits` turn one into the other.
+    """Return the first step at which a value in force differs between two roads; None if they are equal. `edits` turn one into the other.
     (An edit of a slow-to-start chance may put what the slowing chance of its zone gives already.)"""
     first = min((step for kind, _, step in edits if kind != "start"), default=END)
     for zone in {index for kind, index, step in edits if kind == "start" and step < first}:

@@ -41,7 +41,7 @@ class Differences:
         return found
 
     async def first_change(self, before: Road, after: Road, like: tuple[Road, Road] | None = None) -> int | None:
-        """Return the first step at which a value in force differs; None if there is none."""
+        """Return the first step at which a value in force differs; None if all are equal."""
         edits = await self.between(before, after, like)
         if len(before.layers) + len(after.layers) <= MOST_INLINE or not any(kind == "start" for kind, _, _ in edits):
             return first_change(before, after, edits)
